@@ -1,0 +1,58 @@
+-- Bytes of a list and parts of it. What stands inside a list stands there whatever is put behind it.
+use mathlib.Core.Path.{_≡_, refl, sym, ap, _∙_}
+use mathlib.Core.List.{List, [], _∷_, _++_}
+use Prim.Native.Nat.{ℕ, zero, suc, _+_, _-_, _≤_, _<_, min}
+use native.Mathlib.Omega.{arith}
+use lib.ListN.{length, getD, take, drop, length-take, length-drop, length-append, List·getD-append, List·getD-eq-default}
+use lib.Seq.{take-append-le, drop-append-le, getD-take, getD-drop, take-take, drop-drop, take-add, take-length}
+
+-- the byte at a place, 0 past the end
+abbrev pub byteAt : List ℕ → ℕ → ℕ
+byteAt s i = getD s i 0
+
+-- the n bytes from a place on
+abbrev pub part : List ℕ → ℕ → ℕ → List ℕ
+part s at n = take n (drop at s)
+
+-- each byte is one
+pub Bytes : List ℕ → Type 0
+Bytes s = (i : ℕ) → i < length s → byteAt s i < 256
+
+pub byte-lt : (s : List ℕ) (i : ℕ) → Bytes s → byteAt s i < 256
+unfolding Bytes
+byte-lt [] i h = omega arith
+byte-lt (x ∷ s) zero h = h 0 (omega arith)
+byte-lt (x ∷ s) (suc i) h = byte-lt s i (λ k l. h (suc k) (omega arith))
+
+module _ (s : List ℕ) (at n : ℕ) (inside : at + n ≤ length s) where
+  pub length-part : length (part s at n) ≡ n
+  length-part = simp (length-take, length-drop) (omega arith)
+
+  pub part-further : (v : List ℕ) → part (s ++ v) at n ≡ part s at n
+  part-further v = ap (take n) (drop-append-le at s v (omega arith)) ∙ take-append-le n (drop at s) v (rw length-drop (omega arith))
+
+pub byteAt-part : (s : List ℕ) (at n i : ℕ) → i < n → byteAt (part s at n) i ≡ byteAt s (at + i)
+byteAt-part s at n i h = getD-take n (drop at s) i 0 h ∙ getD-drop at s i 0
+
+pub byteAt-further : (s v : List ℕ) (i : ℕ) → i < length s → byteAt (s ++ v) i ≡ byteAt s i
+byteAt-further s v i h = List·getD-append s v 0 i h
+
+-- a part of a part, counted from the list's own beginning
+pub part-part : (s : List ℕ) (at n i m : ℕ) → i + m ≤ n → part (part s at n) i m ≡ part s (at + i) m
+part-part s at n i m h = part-inside (drop at s) ∙ ap (take m) (drop-drop i at s)
+  where
+    part-inside : (t : List ℕ) → part (take n t) i m ≡ part t i m
+    part-inside t = drop-take i n m t h
+      where
+        drop-take : (i n m : ℕ) (t : List ℕ) → i + m ≤ n → take m (drop i (take n t)) ≡ take m (drop i t)
+        drop-take zero n m t h = take-take m n t (omega arith)
+        drop-take (suc i) zero m t h = absurd (omega arith)
+        drop-take (suc i) (suc n) m [] h = refl
+        drop-take (suc i) (suc n) m (x ∷ t) h = drop-take i n m t (omega arith)
+
+-- two parts that meet are one
+pub part-joins : (s : List ℕ) (at n m : ℕ) → part s at n ++ part s (at + n) m ≡ part s at (n + m)
+part-joins s at n m = ap (λ t. part s at n ++ take m t) (sym (drop-drop n at s)) ∙ sym (take-add n m (drop at s))
+
+pub part-whole : (s : List ℕ) → part s 0 (length s) ≡ s
+part-whole s = take-length s

@@ -1,0 +1,2 @@
+pub mod Timestamp
+pub mod Laws
