@@ -4,7 +4,7 @@ use mathlib.Core.List.{List, [], _∷_, _++_}
 use Prim.Native.Nat.{ℕ, zero, suc, _+_, _-_, _≤_, _<_, min}
 use native.Mathlib.Omega.{arith}
 use lib.ListN.{length, getD, take, drop, length-take, length-drop, length-append, List·getD-append, List·getD-eq-default}
-use lib.Seq.{take-append-le, drop-append-le, getD-take, getD-drop, take-take, drop-drop, take-add, take-length}
+use lib.Seq.{take-append-le, drop-append-le, getD-take, getD-drop, take-take, drop-drop, take-add, take-length, take-nil}
 
 -- the byte at a place, 0 past the end
 abbrev pub byteAt : List ℕ → ℕ → ℕ
@@ -37,18 +37,19 @@ byteAt-part s at n i h = getD-take n (drop at s) i 0 h ∙ getD-drop at s i 0
 pub byteAt-further : (s v : List ℕ) (i : ℕ) → i < length s → byteAt (s ++ v) i ≡ byteAt s i
 byteAt-further s v i h = List·getD-append s v 0 i h
 
+drop-take : (k n : ℕ) (t : List ℕ) → drop k (take n t) ≡ take (n - k) (drop k t)
+drop-take zero n t = let e : n - 0 ≡ n = omega arith in rw e
+drop-take (suc k) zero t = let e : 0 - suc k ≡ 0 = omega arith in rw e
+drop-take (suc k) (suc n) [] = sym (take-nil (suc n - suc k))
+drop-take (suc k) (suc n) (x ∷ t) = let e : suc n - suc k ≡ n - k = omega arith in drop-take k n t ∙ rw e
+
+-- what is left of a part behind its first k bytes
+pub drop-part : (s : List ℕ) (at n k : ℕ) → drop k (part s at n) ≡ part s (at + k) (n - k)
+drop-part s at n k = drop-take k n (drop at s) ∙ ap (take (n - k)) (drop-drop k at s)
+
 -- a part of a part, counted from the list's own beginning
 pub part-part : (s : List ℕ) (at n i m : ℕ) → i + m ≤ n → part (part s at n) i m ≡ part s (at + i) m
-part-part s at n i m h = part-inside (drop at s) ∙ ap (take m) (drop-drop i at s)
-  where
-    part-inside : (t : List ℕ) → part (take n t) i m ≡ part t i m
-    part-inside t = drop-take i n m t h
-      where
-        drop-take : (i n m : ℕ) (t : List ℕ) → i + m ≤ n → take m (drop i (take n t)) ≡ take m (drop i t)
-        drop-take zero n m t h = take-take m n t (omega arith)
-        drop-take (suc i) zero m t h = absurd (omega arith)
-        drop-take (suc i) (suc n) m [] h = refl
-        drop-take (suc i) (suc n) m (x ∷ t) h = drop-take i n m t (omega arith)
+part-part s at n i m h = ap (take m) (drop-part s at n i) ∙ take-take m (n - i) (drop (at + i) s) (omega arith)
 
 -- two parts that meet are one
 pub part-joins : (s : List ℕ) (at n m : ℕ) → part s at n ++ part s (at + n) m ≡ part s at (n + m)

@@ -1,0 +1,3 @@
+pub mod Timing
+pub mod Numbers
+pub mod Units

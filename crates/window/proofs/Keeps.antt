@@ -1,0 +1,106 @@
+-- What a drain keeps: whatever holds before it and is kept by each slot that leaves.
+use Prim.Native.Nat.{ℕ, zero, suc, _+_, _-_, _≤_, _<_}
+use native.Mathlib.Omega.{arith}
+use mathlib.Core.Path.{_≡_, refl}
+use mathlib.Core.Bool.{Bool, true, false}
+use mathlib.Core.List.{List}
+use lib.Dec.{ltb}
+use lib.ListN.{getD}
+use borrow.Author.Tests.{le-leb, leb-true}
+use Rattle.laws.specs.Pick.{pick}
+use Rattle.kinds.specs.declared.SampleTime.{SampleTime}
+use Rattle.window.specs.Depth.{sampledOf, leftOf, sampledSubstreamOf, leftSubstreamOf}
+use Rattle.window.specs.Levels.{noDepth, noSubstream, depthAt, substreamAt, eachDepth, eachSubstream, drainedOf, underrunOf}
+use Rattle.window.specs.Numbers.{roomAt, depthRoom, depthsRoom, substreamsRoom, roomOf}
+use Rattle.window.specs.Rings.{contributionAt}
+use Rattle.window.specs.Window.{afterSlot, passedAt, drainOf}
+use Rattle.window.specs.declared.Contribution.{Contribution}
+use Rattle.window.specs.declared.Peak.{Peak}
+use Rattle.window.specs.declared.Depth.{Depth}
+use Rattle.window.specs.declared.SubstreamDepth.{SubstreamDepth}
+use Rattle.window.specs.declared.Levels.{Levels}
+use Rattle.window.specs.declared.Rings.{Rings}
+use Rattle.window.specs.declared.Drained.{Drained}
+use Rattle.window.specs.declared.Underrun.{Underrun}
+use Rattle.window.specs.declared.Underrun.the-variants.{Nothing, At}
+use Rattle.window.proofs.Index.{both, both-hold, every-holds, at-five, at-four}
+use Rattle.window.proofs.All.{depth-has-room, substream-has-room, room-of-depths, room-of-substreams}
+
+-- what stands at an index after a rule was applied at each
+pub each-depth-at : (rule : Depth → ℕ → ℕ → Depth) (depth : List Depth) (c : Contribution) (k : ℕ) → k < 5
+    → depthAt (eachDepth rule depth c) k ≡ rule (depthAt depth k) (getD (c .total) k 0) (getD (c .stream) k 0)
+unfolding eachDepth
+each-depth-at rule depth c k h = at-five (λ j. rule (depthAt depth j) (getD (c .total) j 0) (getD (c .stream) j 0)) noDepth k h
+
+pub each-substream-at : (rule : SubstreamDepth → ℕ → SubstreamDepth) (substream : List SubstreamDepth) (c : Contribution) (i : ℕ) → i < 4
+    → substreamAt (eachSubstream rule substream c) i ≡ rule (substreamAt substream i) (getD (c .substream) i 0)
+unfolding eachSubstream
+each-substream-at rule substream c i h = at-four (λ j. rule (substreamAt substream j) (getD (c .substream) j 0)) noSubstream i h
+
+-- the last levels of a drain are those it began with, or those after a slot left
+drain-by : (P : Levels → Type 0) (b : Bool) (u : Underrun) (l m : Levels) (next : Drained) → P l → P m → P (next .levels)
+    → P (pick b (afterSlot u m next) (record { levels = l; underrun = Nothing }) .levels)
+drain-by P false u l m next p q r = p
+drain-by P true Nothing l m next p q r = r
+drain-by P true (At k) l m next p q r = q
+
+module _ (P : Levels → Type 0) (keep : (l : Levels) (c : Contribution) → P l → P (drainedOf l c)) (rings : Rings) (playhead : SampleTime) where
+  pub drain-keeps : (n : ℕ) (l : Levels) → P l → P (drainOf n rings playhead l .levels)
+  unfolding drainOf
+  drain-keeps zero l p = p
+  drain-keeps (suc n) l p =
+      let c : Contribution = contributionAt rings (l .read) in
+      drain-by P (passedAt rings playhead l) (underrunOf (l .depth) c) l (drainedOf l c) (drainOf n rings playhead (drainedOf l c)) p (keep l c p) (drain-keeps n (drainedOf l c) (keep l c p))
+
+-- a slot that leaves makes no depth larger
+left-by : (b : Bool) (x y t s : ℕ) (p : Peak) → (pick b (sampledOf 0 0 p) (sampledOf (x - t) (y - s) p) .total ≤ x)
+    × (pick b (sampledOf 0 0 p) (sampledOf (x - t) (y - s) p) .stream ≤ y)
+unfolding sampledOf
+left-by true x y t s p = (omega arith, omega arith)
+left-by false x y t s p = (omega arith, omega arith)
+
+pub left-lower : (d : Depth) (t s : ℕ) → (leftOf d t s .total ≤ d .total) × (leftOf d t s .stream ≤ d .stream)
+unfolding leftOf
+left-lower d t s = left-by (ltb (d .total) t) (d .total) (d .stream) t s (d .peak)
+
+pub left-substream-lower : (d : SubstreamDepth) (b : ℕ) → leftSubstreamOf d b .bytes ≤ d .bytes
+unfolding leftSubstreamOf sampledSubstreamOf
+left-substream-lower d b = omega arith
+
+room-less : (x y bytes : ℕ) → x ≤ y → roomAt y bytes ≡ true → roomAt x bytes ≡ true
+unfolding roomAt
+room-less x y bytes h e = let k : y + bytes ≤ 4294967295 = leb-true (y + bytes) 4294967295 e in le-leb (x + bytes) 4294967295 (omega arith)
+
+depth-room-less : (d e : Depth) (t s : ℕ) → (e .total ≤ d .total) × (e .stream ≤ d .stream) → depthRoom d t s ≡ true → depthRoom e t s ≡ true
+unfolding depthRoom
+depth-room-less d e t s h r =
+    let w = both (roomAt (d .total) t) (roomAt (d .stream) s) r in
+    both-hold (room-less (e .total) (d .total) t (h .0) (w .0)) (room-less (e .stream) (d .stream) s (h .1) (w .1))
+
+-- so where there is room before the drain there is room after it
+pub drained-room : (x : Contribution) (l : Levels) (c : Contribution) → roomOf l x ≡ true → roomOf (drainedOf l c) x ≡ true
+unfolding roomOf depthsRoom substreamsRoom drainedOf
+drained-room x l c r =
+    both-hold
+    (every-holds 5 (λ k. depthRoom (depthAt (eachDepth leftOf (l .depth) c) k) (getD (x .total) k 0) (getD (x .stream) k 0))
+    (λ k h. rw (each-depth-at leftOf (l .depth) c k h)
+    (depth-room-less (depthAt (l .depth) k) (leftOf (depthAt (l .depth) k) (getD (c .total) k 0) (getD (c .stream) k 0)) (getD (x .total) k 0) (getD (x .stream) k 0)
+    (left-lower (depthAt (l .depth) k) (getD (c .total) k 0) (getD (c .stream) k 0))
+    (depth-has-room (l .depth) x k (room-of-depths l x r) h))))
+    (every-holds 4 (λ i. roomAt (substreamAt (eachSubstream leftSubstreamOf (l .substream) c) i .bytes) (getD (x .substream) i 0))
+    (λ i h. rw (each-substream-at leftSubstreamOf (l .substream) c i h)
+    (room-less (leftSubstreamOf (substreamAt (l .substream) i) (getD (c .substream) i 0) .bytes) (substreamAt (l .substream) i .bytes) (getD (x .substream) i 0)
+    (left-substream-lower (substreamAt (l .substream) i) (getD (c .substream) i 0))
+    (substream-has-room (l .substream) x i (room-of-substreams l x r) h))))
+
+drained-write : (n : ℕ) (l : Levels) (c : Contribution) → l .write ≡ n → drainedOf l c .write ≡ n
+unfolding drainedOf
+drained-write n l c e = e
+
+-- what the add asks, after the drain
+module _ (n : ℕ) (rings : Rings) (playhead : SampleTime) (l : Levels) where
+  pub drain-room : (x : Contribution) → roomOf l x ≡ true → roomOf (drainOf n rings playhead l .levels) x ≡ true
+  drain-room x r = drain-keeps (λ m. roomOf m x ≡ true) (drained-room x) rings playhead n l r
+
+  pub drain-write : drainOf n rings playhead l .levels .write ≡ l .write
+  drain-write = drain-keeps (λ m. m .write ≡ l .write) (drained-write (l .write)) rings playhead n l refl

@@ -1,0 +1,10 @@
+mod Index
+mod Accumulator
+mod All
+mod Turns
+mod Keeps
+mod Whole
+mod CapArms
+pub mod Always
+pub mod Strictly
+pub mod One

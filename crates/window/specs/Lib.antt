@@ -1,0 +1,8 @@
+pub mod Index
+pub mod Depth
+pub mod Levels
+pub mod Numbers
+pub mod Rings
+pub mod Window
+pub mod Caps
+pub mod History

@@ -1,0 +1,42 @@
+// The byte caps of the accumulators, FBA and FBB.
+ghost use mathlib.Core.Path.{_≡_};
+ghost use Rattle.window.specs.Caps.{fbbEntry, fbaCapOf, fbbCapOf};
+use crate::Cap;
+
+// An entry of the FBB cap table, by the low nibble of the info byte; 0 outside it. The tables differ in their last entry only.
+fn fbb_entry(nibble: usize, last: u64) -> u64
+    ensures { λ r. ⌜ r ≡ fbbEntry nibble last ⌝ }
+{
+    if nibble < 4 {
+        return 0;
+    }
+    let table = [90000, 30000, 0, 30000, 0, 0, 0, 0, 0, last];
+    let i = nibble - 4;
+    if i < 10 { table[i] } else { 0 }
+}
+
+// Byte cap of an accumulator for FBA streams: 15,000 bytes for each channel of the presentation that its decoder reconstructs.
+pub fn fba_cap(accumulator: usize) -> Cap
+    ensures { λ r. ⌜ r ≡ fbaCapOf accumulator ⌝ }
+{
+    match accumulator {
+        0 => Cap::Bytes(30000),
+        1 => Cap::Bytes(90000),
+        2..=4 => Cap::Bytes(120000),
+        _ => Cap::NoSuchAccumulator,
+    }
+}
+
+// Byte cap of an accumulator for FBB streams. Only the low nibble of `substream_info` is defined in FBB, and the 8- and 16-channel sums
+// are never checked.
+pub fn fbb_cap(accumulator: usize, substream_info: u8) -> Cap
+    ensures { λ r. ⌜ r ≡ fbbCapOf accumulator «substream_info» ⌝ }
+{
+    let nibble = (substream_info % 16) as usize;
+    match accumulator {
+        0 => Cap::Bytes(fbb_entry(nibble, 30000)),
+        1 | 4 => Cap::Bytes(fbb_entry(nibble, 90000)),
+        2 | 3 => Cap::Unchecked,
+        _ => Cap::NoSuchAccumulator,
+    }
+}

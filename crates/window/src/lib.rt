@@ -1,0 +1,357 @@
+// The depth window: how many bytes a decoder has to hold. Document 01, "Depth window (001)", numbers 1, 12 and 13.
+//
+// Five accumulators sum the bytes of every unit that has arrived and has not been played out: substream 0, the 6-, 8- and 16-channel
+// decoders, and the whole stream. A unit's bytes stay until the playhead is strictly above its removal time. A window goes in by value
+// and comes back; a call that refuses hands it back as it was.
+//
+// The window has two parts. The rings hold the units in flight, a slot each; the levels are the small rest: slot numbers, depths and
+// peaks. The loop that drains changes the levels alone, so no ring is copied in it.
+mod single; // one accumulator, one substream
+mod every; // all of them, and what one slot does to the levels
+mod numbers; // the conditions of numbers 1, 12 and 13
+mod slots; // the rings and the drain
+mod caps; // the byte caps
+
+pub use caps::fba_cap;
+pub use caps::fbb_cap;
+ghost use mathlib.Core.Path.{_≡_};
+ghost use mathlib.Core.Bool.{true};
+ghost use Rattle.window.specs.Numbers.{fitsOf, roomOf};
+ghost use Rattle.window.specs.Window.{freshOf, steppedOf, refusedOf, pushedOf, restartedOf, bufferedOf, peaksOf, peakRecordsOf, substreamPeaksOf};
+use every::add_slot;
+use every::fresh_levels;
+use every::held;
+use every::peak_records_of;
+use every::peak_totals;
+use every::restart_levels;
+use every::substream_peaks_of;
+use every::totals;
+use kinds::SampleTime;
+use numbers::fits;
+use numbers::room;
+use numbers::small;
+use slots::drain;
+use slots::fresh_rings;
+use slots::write_slot;
+
+// What one unit adds, in bytes. `total` is what an accumulator is capped on, `stream` the part of it that is substream payload, and
+// `substream` each substream's own payload.
+pub struct Contribution {
+    pub total: [u32; 5],
+    pub stream: [u32; 5],
+    pub substream: [u32; 4],
+}
+
+// Deepest one accumulator has been, and what it held at that moment.
+pub struct Peak {
+    pub total: u64,
+    pub stream: u64,
+    pub overhead: u64,
+}
+
+// One accumulator: the bytes it holds now, the stream part of them, and its peak.
+pub struct Depth {
+    pub total: u64,
+    pub stream: u64,
+    pub peak: Peak,
+}
+
+// One substream: the bytes it holds now, and the most it has held.
+pub struct SubstreamDepth {
+    pub bytes: u64,
+    pub peak: u64,
+}
+
+// All of a window but its rings.
+pub struct Levels {
+    pub read: usize,
+    pub write: usize,
+    pub depth: [Depth; 5],
+    pub substream: [SubstreamDepth; 4],
+}
+
+// A ring for each accumulator, of its bytes or of their stream part.
+pub struct FiveRings {
+    pub ring0: [u32; 128],
+    pub ring1: [u32; 128],
+    pub ring2: [u32; 128],
+    pub ring3: [u32; 128],
+    pub ring4: [u32; 128],
+}
+
+// A ring for each substream, of its bytes.
+pub struct FourRings {
+    pub ring0: [u32; 128],
+    pub ring1: [u32; 128],
+    pub ring2: [u32; 128],
+    pub ring3: [u32; 128],
+}
+
+// The units in flight: slot i of every ring belongs to the same unit.
+pub struct Rings {
+    pub removal: [u64; 128],
+    pub total: FiveRings,
+    pub stream: FiveRings,
+    pub substream: FourRings,
+}
+
+pub struct Window {
+    pub rings: Rings,
+    pub levels: Levels,
+}
+
+// The accumulator that held fewer bytes than the unit leaving it, if any.
+pub enum Underrun {
+    Nothing,
+    At(usize),
+}
+
+// What a step did to the window: each accumulator's depth with the new unit included.
+pub struct Report {
+    pub depths: [u64; 5],
+    pub underrun: Underrun,
+}
+
+// The answer of every call that takes a window.
+pub enum Answer {
+    Accepted,
+    RecordDoesNotFit,
+    ContributionTooLarge,
+    DepthTooLarge,
+}
+
+pub struct Pushed {
+    pub window: Window,
+    pub report: Report,
+    pub answer: Answer,
+}
+
+// What a restart gives back.
+pub struct Restarted {
+    pub window: Window,
+    pub answer: Answer,
+}
+
+// The units held.
+pub struct Buffered {
+    pub units: usize,
+    pub answer: Answer,
+}
+
+// Deepest each accumulator has been.
+pub struct Peaks {
+    pub peaks: [u64; 5],
+    pub answer: Answer,
+}
+
+// Deepest each accumulator has been, with the stream and overhead parts it held then.
+pub struct PeakRecords {
+    pub peaks: [Peak; 5],
+    pub answer: Answer,
+}
+
+// Deepest each substream's own bytes have been.
+pub struct SubstreamPeaks {
+    pub peaks: [u64; 4],
+    pub answer: Answer,
+}
+
+// The levels after a drain, and whether the last record drained left an accumulator short.
+pub struct Drained {
+    pub levels: Levels,
+    pub underrun: Underrun,
+}
+
+// A byte cap. An accumulator that is never checked has none, which is not a cap of 0.
+pub enum Cap {
+    Bytes(u64),
+    Unchecked,
+    NoSuchAccumulator,
+}
+
+// A step that is accepted: write the slot, drain, add.
+fn step(
+    window: Window,
+    playhead: SampleTime,
+    removal: SampleTime,
+    contribution: Contribution,
+) -> Pushed
+    requires { ⌜ (fitsOf (window .levels) ≡ true) × (roomOf (window .levels) contribution ≡ true) ⌝ }
+    ensures { λ r. ⌜ r ≡ steppedOf window playhead removal contribution ⌝ }
+{
+    let levels = window.levels;
+    let before = window.rings;
+    let rings = write_slot(before, levels.write, removal, contribution);
+    let drained = drain(rings, levels, playhead);
+    let left = drained.levels;
+    let underrun = drained.underrun;
+    let added = add_slot(left, contribution);
+    let depth = added.depth;
+    let depths = totals(depth);
+    let after = Window {
+        rings,
+        levels: added,
+    };
+    let report = Report { depths, underrun };
+    Pushed {
+        window: after,
+        report,
+        answer: Answer::Accepted,
+    }
+}
+
+// A step that is refused: the window as it was, and a report of nothing.
+fn refused(window: Window, answer: Answer) -> Pushed
+    ensures { λ r. ⌜ r ≡ refusedOf window answer ⌝ }
+{
+    let depths = [0; 5];
+    let report = Report {
+        depths,
+        underrun: Underrun::Nothing,
+    };
+    Pushed {
+        window,
+        report,
+        answer,
+    }
+}
+
+impl Window {
+    // A window that never held a unit.
+    pub fn fresh() -> Window
+        ensures { λ r. ⌜ r ≡ freshOf ⌝ }
+    {
+        let rings = fresh_rings();
+        let levels = fresh_levels();
+        Window { rings, levels }
+    }
+
+    // Admits a unit and drains every slot that playback has strictly passed. Numbers 1, 12 and 13, in this order, hand the window back
+    // as it was.
+    pub fn push(
+        self,
+        playhead: SampleTime,
+        removal: SampleTime,
+        contribution: Contribution,
+    ) -> Pushed
+        ensures { λ r. ⌜ r ≡ pushedOf self playhead removal contribution ⌝ }
+    {
+        let levels = self.levels;
+        if fits(levels) {} else {
+            return refused(self, Answer::RecordDoesNotFit);
+        }
+        if small(contribution) {} else {
+            return refused(self, Answer::ContributionTooLarge);
+        }
+        if room(levels, contribution) {} else {
+            return refused(self, Answer::DepthTooLarge);
+        }
+        step(self, playhead, removal, contribution)
+    }
+
+    // Drops every unit in flight and starts the window again, keeping the peaks.
+    pub fn restart(self) -> Restarted
+        ensures { λ r. ⌜ r ≡ restartedOf self ⌝ }
+    {
+        let levels = self.levels;
+        if fits(levels) {} else {
+            return Restarted {
+                window: self,
+                answer: Answer::RecordDoesNotFit,
+            };
+        }
+        let rings = fresh_rings();
+        let emptied = restart_levels(levels);
+        let window = Window {
+            rings,
+            levels: emptied,
+        };
+        Restarted {
+            window,
+            answer: Answer::Accepted,
+        }
+    }
+
+    // Units held in the window.
+    pub fn buffered(self) -> Buffered
+        ensures { λ r. ⌜ r ≡ bufferedOf self ⌝ }
+    {
+        let levels = self.levels;
+        if fits(levels) {} else {
+            return Buffered {
+                units: 0,
+                answer: Answer::RecordDoesNotFit,
+            };
+        }
+        let units = held(levels.read, levels.write);
+        Buffered {
+            units,
+            answer: Answer::Accepted,
+        }
+    }
+
+    // Deepest each accumulator has been over the stream.
+    pub fn peaks(self) -> Peaks
+        ensures { λ r. ⌜ r ≡ peaksOf self ⌝ }
+    {
+        let levels = self.levels;
+        if fits(levels) {} else {
+            let none = [0; 5];
+            return Peaks {
+                peaks: none,
+                answer: Answer::RecordDoesNotFit,
+            };
+        }
+        let depth = levels.depth;
+        let peaks = peak_totals(depth);
+        Peaks {
+            peaks,
+            answer: Answer::Accepted,
+        }
+    }
+
+    // Deepest each accumulator has been, with the stream and overhead parts it held then.
+    pub fn peak_records(self) -> PeakRecords
+        ensures { λ r. ⌜ r ≡ peakRecordsOf self ⌝ }
+    {
+        let levels = self.levels;
+        if fits(levels) {} else {
+            let peak = Peak {
+                total: 0,
+                stream: 0,
+                overhead: 0,
+            };
+            let none = [peak; 5];
+            return PeakRecords {
+                peaks: none,
+                answer: Answer::RecordDoesNotFit,
+            };
+        }
+        let depth = levels.depth;
+        let peaks = peak_records_of(depth);
+        PeakRecords {
+            peaks,
+            answer: Answer::Accepted,
+        }
+    }
+
+    // Deepest each substream's own bytes have been, with no overhead priced in.
+    pub fn substream_peaks(self) -> SubstreamPeaks
+        ensures { λ r. ⌜ r ≡ substreamPeaksOf self ⌝ }
+    {
+        let levels = self.levels;
+        if fits(levels) {} else {
+            let none = [0; 4];
+            return SubstreamPeaks {
+                peaks: none,
+                answer: Answer::RecordDoesNotFit,
+            };
+        }
+        let substream = levels.substream;
+        let peaks = substream_peaks_of(substream);
+        SubstreamPeaks {
+            peaks,
+            answer: Answer::Accepted,
+        }
+    }
+}
