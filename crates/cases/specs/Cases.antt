@@ -111,6 +111,8 @@ table =
     ∷ record { case = underLock (0xD0 ∷ 0x03 ∷ 0 ∷ 0 ∷ 0 ∷ 0 ∷ []); outcome = 8 ∷ 1 ∷ [] }
     -- P3: number 5, actual 4, minimum 6
     ∷ record { case = underLock (0xD0 ∷ 0x02 ∷ 0 ∷ 0 ∷ 0 ∷ 0 ∷ []); outcome = 5 ∷ 4 ∷ 6 ∷ 1 ∷ [] }
+    -- "parity is tested first": both wrong is a quiet loss, not number 5
+    ∷ record { case = underLock (0xC0 ∷ 0x02 ∷ 0 ∷ 0 ∷ 0 ∷ 0 ∷ []); outcome = 8 ∷ 1 ∷ [] }
     -- P4: sync length 26, unit length 32: number 5, minimum 34
     ∷ record { case = inSearch (0x00 ∷ 0x10 ∷ 0 ∷ 0 ∷ 0xF8 ∷ 0x72 ∷ 0x6F ∷ 0xBB ∷ []); outcome = 5 ∷ 32 ∷ 34 ∷ 1 ∷ [] }
     -- P5: 34 goes on: the whole unit is waited for

@@ -1,11 +1,11 @@
 -- What each call answers, and what it leaves of record and buffer: definitions only.
 use Prim.Native.Nat.{ℕ, _+_, _-_}
-use mathlib.Core.Bool.{Bool, true, false, _&&_}
+use mathlib.Core.Bool.{Bool, true, false}
 use mathlib.Core.List.{List, [], _++_}
 use lib.Dec.{leb, ltb, eqb}
 use lib.ListN.{length, take, drop}
 use Rattle.laws.specs.Pick.{pick}
-use Rattle.laws.specs.Parts.{byteAt, part}
+use Rattle.laws.specs.Parts.{part}
 use Rattle.machine.specs.Lent.{paste}
 use Rattle.machine.specs.Scan as Scan
 use Rattle.machine.specs.Scan.{request, ranDry, spoke}
@@ -130,7 +130,3 @@ askedOf r buf =
 
 unfoldable pub partOf : List ℕ → ℕ → ℕ → List ℕ
 partOf buf start n = pick (leb (start + n) (length buf)) (part buf start n) []
-
--- "`Frame::is_major_sync` panics on a 4-byte unit; here the answer is no"
-unfoldable pub majorOf : List ℕ → Bool
-majorOf bytes = leb 6 (length bytes) && (eqb (byteAt bytes 4) 0xF8 && eqb (byteAt bytes 5) 0x72)

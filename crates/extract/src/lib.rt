@@ -10,9 +10,10 @@ ghost use Rattle.laws.specs.Parts.{part};
 ghost use Rattle.machine.specs.Lent.{paste};
 ghost use Rattle.machine.specs.Scan.{request as requestOf};
 ghost use Rattle.rules.specs.Request.{reader};
+ghost use Rattle.rules.specs.Units.{isMajor};
 ghost use Rattle.extract.specs.Record.{roomFits, recordFits, fitsOf, unread};
 ghost use Rattle.extract.specs.Fits.{Fits};
-ghost use Rattle.extract.specs.Calls.{openedOf, pushedOf, bufferOf, leftAt, dryAt, spokenAt, answeredOf, askedOf, partOf, majorOf};
+ghost use Rattle.extract.specs.Calls.{openedOf, pushedOf, bufferOf, leftAt, dryAt, spokenAt, answeredOf, askedOf, partOf};
 
 mod search;
 mod step;
@@ -295,7 +296,7 @@ pub fn part(buf: &[u8], start: usize, n: usize) -> &[u8]
 
 // Does a unit begin with a major sync? By bytes 4 and 5; a unit too short to have them does not.
 pub fn is_major_sync(unit: &[u8]) -> bool
-    ensures { λ r. ⌜ r ≡ majorOf (now (unit .entry)) ⌝ }
+    ensures { λ r. ⌜ r ≡ isMajor (now (unit .entry)) ⌝ }
 {
     if unit.len() < 6 {
         return false;

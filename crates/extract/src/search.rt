@@ -1,11 +1,11 @@
 // Document 01, "Search": the sync scan, the lengths, the candidate. Each function works on the unread bytes.
 ghost use mathlib.Core.Path.{_≡_};
-ghost use Prim.Native.Nat.{_+_, _*_, _%_, _≤_, _<_};
+ghost use Prim.Native.Nat.{_+_, _≤_, _<_};
 ghost use lib.ListN.{length};
-ghost use Rattle.laws.specs.Parts.{byteAt};
-ghost use Rattle.laws.specs.Words.{word as wordOf, wordAt};
+ghost use Rattle.laws.specs.Words.{word as wordOf};
 ghost use Rattle.machine.specs.Ask.{ask, decide};
 ghost use Rattle.rules.specs.Search.{candidateAt, find as findIn, kept as keptOf, stampAt, syncLength, checks as checksOf, candidate as candidateOf};
+ghost use Rattle.rules.specs.Units.{lengthAt};
 ghost use Rattle.extract.specs.Means.{foundOf, lengthOf, judgedOf, SyncIs};
 use crc::Algorithm;
 use rules::Verdict;
@@ -138,7 +138,7 @@ pub fn sync_length(u: &[u8]) -> Length
 // Twice the low 12 bits of the first word.
 pub fn unit_length(u: &[u8]) -> u16
     requires { ⌜ 2 ≤ length (now u) ⌝ }
-    ensures { λ r. ⌜ r ≡ 2 * (wordOf (byteAt (now (u .entry)) 0) (byteAt (now (u .entry)) 1) % 4096) ⌝ }
+    ensures { λ r. ⌜ r ≡ lengthAt (now (u .entry)) ⌝ }
 {
     2 * (word(u[0], u[1]) % 4096)
 }

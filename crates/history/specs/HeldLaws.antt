@@ -68,13 +68,13 @@ part-pasted : (b : List ℕ) (at : ℕ) (xs : List ℕ) → at ≤ length b → 
 part-pasted b at xs h = ap (take (length xs)) (drop-at (take at b) (xs ++ drop (at + length xs) b) at (length-take-le at b h)) ∙ take-append-seam xs (drop (at + length xs) b)
 
 module _ (h : Held) (p : List ℕ) (fit : Fits (h .extractor) (length (h .buffer))) where
-  abbrev r : Extractor
+  abbrev pub r : Extractor
   r = h .extractor
 
-  abbrev n : ℕ
+  abbrev pub n : ℕ
   n = length (h .buffer)
 
-  abbrev k : ℕ
+  abbrev pub k : ℕ
   k = length p
 
   -- the new stretch lies within the buffer
@@ -88,7 +88,7 @@ module _ (h : Held) (p : List ℕ) (fit : Fits (h .extractor) (length (h .buffer
   abbrev grownHeld : Held
   grownHeld = record { extractor = grown r (placeOf r n k) k; buffer = paste (h .buffer) (placeOf r n k) (unread r (h .buffer) ++ p) }
 
-  unread-length : length (unread r (h .buffer)) ≡ unreadOf r
+  pub unread-length : length (unread r (h .buffer)) ≡ unreadOf r
   unread-length = let o = fit .itself .order in let i = fit .inside in length-part (h .buffer) (r .start) (unreadOf r) (omega arith)
 
   joined-length : length (unread r (h .buffer) ++ p) ≡ unreadOf r + k

@@ -28,10 +28,10 @@ use Rattle.rules.specs.HandedLaws.{units-stand, units-apart, units-numbered, ne
 use Rattle.extract.specs.declared.Extractor.{Extractor}
 use Rattle.extract.specs.declared.Answer.the-variants.{Unit as AUnit}
 use Rattle.extract.specs.Calls.{askedOf, partOf}
-use Rattle.extract.specs.Record.{fitsOf, unreadOf, unread}
+use Rattle.extract.specs.Record.{fitsOf, unreadOf, unread, errorsOf}
 use Rattle.extract.specs.Fits.{Fits, fits-when}
 use Rattle.history.specs.Held.{Held, calls, openedOn, view}
-use Rattle.history.specs.HeldLaws.{follows, opens, next-writes-nothing}
+use Rattle.history.specs.HeldLaws.{unread-length, follows, opens, next-writes-nothing}
 use Rattle.history.specs.PartLaws.{part-is-the-unit}
 
 -- A reader from opening: any check setting, any lent buffer of a fitting length, holding anything.
@@ -75,6 +75,17 @@ module _ (a : Algorithm) (buffer : List ℕ) (low : 8192 ≤ length buffer) (hig
   at-rest cs i =
       rest-holds-at-most-8189 (log cs .now .extractor .stream) (unread (log cs .now .extractor) (log cs .now .buffer)) (always-fits cs .itself .few)
       (Laws.idle-rests reader reader-laws view calls follows (new a) (openedOn a buffer) (opens a buffer low high) cs i)
+
+  pub takes-3-more : (cs : List Call) (k : ℕ) → log cs .idle ≡ true → k ≤ 3 → unreadOf (log cs .now .extractor) + k ≤ length (log cs .now .buffer)
+  takes-3-more cs k i l =
+      let f = always-fits cs in
+      let r = at-rest cs i in
+      let m = unread-length (log cs .now) [] f in
+      omega arith
+
+  -- Every loss and every unit took bytes: errors and frames together never exceed the position.
+  pub no-invented-counts : (cs : List Call) → log cs .now .extractor .stream .frames + errorsOf (log cs .now .extractor .stream .losses) ≤ log cs .now .extractor .stream .consumed .0
+  no-invented-counts cs = always-fits cs .itself .counted
 
   -- DEMAND 2, UNITS. Every unit handed out is the accepted bytes from its position on, twice its 12-bit length word long, its directory inside it,
   -- its parity nibble 15; a timestamp is carried by the first unit at most, and is the parse of the 16 bytes before its candidate.

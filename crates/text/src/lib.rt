@@ -1,8 +1,11 @@
-// Lines, words and numbers of a script, for the programs. No part of document 01: what a program reads is turned here into slices and
+// Lines, words and numbers, read from a script and written for a report, for the programs. No part of document 01: what a program reads is turned here into slices and
 // numbers, and everything that matters happens in the proved libraries.
-ghost use Prim.Native.Nat.{_≤_, min};
+ghost use mathlib.Core.Path.{_≡_};
+ghost use Prim.Native.Nat.{_+_, _≤_, min};
 ghost use lib.ListN.{length};
+ghost use lib.Seq.{paste};
 ghost use Rattle.io.specs.Counts.{Counts};
+ghost use Rattle.text.specs.Put.{putOf, putEnd, Spelt};
 ghost use Rattle.text.specs.Text.{Within};
 
 // A stretch of a slice: from the first place to the one past the last.
@@ -156,4 +159,72 @@ pub fn hex_bytes(s: &[u8], out: &mut [u8]) -> Hex
         good: true,
         count: n,
     }
+}
+
+// The value of a decimal digit, 10 where it is none.
+fn decimal_digit(b: u8) -> u8
+    ensures { λ r. ⌜ r ≤ 10 ⌝ }
+{
+    match b {
+        48..=57 => b - 48,
+        _ => 10,
+    }
+}
+
+// A number of at most 19 decimal digits. The remainder keeps every digit of so short a number, and shows that one more has room.
+pub fn decimal_number(s: &[u8]) -> Number {
+    if s.len() == 0 {
+        return Number::Bad;
+    }
+    if 19 < s.len() {
+        return Number::Bad;
+    }
+    let mut n: u64 = 0;
+    let mut i = 0;
+    while i < s.len() {
+        let d = decimal_digit(s[i]);
+        if 9 < d {
+            return Number::Bad;
+        }
+        n = n % 1_000_000_000_000_000_000 * 10 + d as u64;
+        i += 1;
+    }
+    Number::Is(n)
+}
+
+// Writes a word at a place that has room for it.
+fn write_at(out: &mut [u8], at: usize, word: &[u8])
+    requires { ⌜ at + length (now word) ≤ length (now out) ⌝ }
+    ensures { λ _. ⌜ now (out .exit) ≡ paste (now (out .entry)) at (now (word .entry)) (length (now (word .entry))) ⌝ }
+{
+    let mut i = 0;
+    while i < word.len() {
+        out[at + i] = word[i];
+        i += 1;
+    }
+}
+
+// Puts a word at a place of a lent slice, and says where it ends; where there is no room nothing is written, and the place itself is the
+// answer.
+pub fn put(out: &mut [u8], at: usize, word: &[u8]) -> usize
+    ensures at { λ r. ⌜ r ≡ putEnd (length (now (out .entry))) at (length (now (word .entry))) ⌝ }
+    ensures holds { λ _. ⌜ now (out .exit) ≡ putOf (now (out .entry)) at (now (word .entry)) ⌝ }
+{
+    if out.len() < at {
+        return at;
+    }
+    if out.len() - at < word.len() {
+        return at;
+    }
+    write_at(out, at, word);
+    at + word.len()
+}
+
+// Puts a number at a place, in the fewest decimal digits that hold it, as `put` does a word.
+pub fn put_decimal(out: &mut [u8], at: usize, n: u64) -> usize
+    ensures { λ r. ⌜ Spelt n at (now (out .entry)) (now (out .exit)) r ⌝ }
+{
+    let mut digits = [0u8; 20];
+    let k = io::decimal(n, &mut digits);
+    put(out, at, &digits[..k])
 }
