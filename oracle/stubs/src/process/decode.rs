@@ -1,0 +1,1 @@
+// Stub: the decoder stays behind.
