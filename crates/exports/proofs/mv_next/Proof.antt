@@ -1,0 +1,13 @@
+-- `mv_next` is the library's `next` on the record that the flat one says, laid flat.
+use borrow.Author.Needs.{needs}
+use Rattle.exports.proofs.mv_next.Statement.{statement}
+use Rattle.exports.proofs.mv_next.Tie as tie
+
+pub mv-next-spec : {M : Type 1} → statement M
+mv-next-spec =
+    tie.close
+    (tie.spec
+    (λ c κs. search needs)
+    (λ c κs. search needs)
+    (λ c κs. search needs)
+    (λ c. cc))

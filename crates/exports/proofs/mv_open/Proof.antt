@@ -1,0 +1,13 @@
+-- `mv_open` is the library's `open`, laid flat.
+use borrow.Author.Needs.{needs}
+use Rattle.exports.proofs.mv_open.Statement.{statement}
+use Rattle.exports.proofs.mv_open.Tie as tie
+
+pub mv-open-spec : {M : Type 1} → statement M
+mv-open-spec =
+    tie.close
+    (tie.spec
+    (λ c κs. search needs)
+    (λ c κs. search needs)
+    (λ c κs. search needs)
+    (λ c. cc))

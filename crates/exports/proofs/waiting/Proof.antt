@@ -1,0 +1,16 @@
+-- `waiting` goes by the byte that says whether there is a timestamp.
+use borrow.Author.Needs.{needs}
+use Rattle.exports.proofs.Ways.{waits, waits-not}
+use Rattle.exports.proofs.waiting.Statement.{statement}
+use Rattle.exports.proofs.waiting.Tie as tie
+
+pub waiting-spec : {M : Type 1} → statement M
+waiting-spec =
+    tie.close
+    (tie.spec
+    (λ c κs. search needs)
+    (λ c κs. search needs)
+    (λ c κs. search needs)
+    (λ c κs. search needs)
+    (λ c. search (needs, waits))
+    (λ c. search (needs, waits-not)))
