@@ -11,16 +11,16 @@
 static uint8_t buffer[MV_MOST_BUFFER];
 static uint8_t piece[MV_MOST_BUFFER - MV_LEAST_BUFFER]; /* with what a dry reader holds, at most 8,189 bytes, it fits the buffer */
 
-static MvReader ask_until_dry(MvReader reader) {
+static void ask_until_dry(MvReader *reader) {
+    MvUnit unit;
     for (;;) {
-        MvAnswer a = mv_next(reader, buffer, sizeof buffer);
-        reader = a.reader;
-        if (a.unit)
-            printf("AU %" PRIu64 " %" PRIu64 " %zu %s %s\n", a.index, a.position, a.length, a.major ? "major" : "minor", a.timestamp.present ? "ts" : "-");
-        else if (a.number == 5 || a.number == 6)
-            printf("BAD %" PRIu32 " %" PRIu64 "\n", a.number, reader.consumed);
+        uint32_t number = mv_next(reader, buffer, sizeof buffer, &unit);
+        if (number == 0)
+            printf("AU %" PRIu64 " %" PRIu64 " %" PRIu64 " %s %s\n", unit.index, unit.position, unit.length, unit.major ? "major" : "minor", unit.timestamp.present ? "ts" : "-");
+        else if (number == 5 || number == 6)
+            printf("BAD %" PRIu32 " %" PRIu64 "\n", number, reader->consumed);
         else
-            return reader; /* 7 and 8: dry */
+            return; /* 7 and 8: dry */
     }
 }
 
@@ -35,15 +35,16 @@ int main(int argc, char **argv) {
         perror(argv[1]);
         return 2;
     }
-    MvReader reader = mv_open(buffer, sizeof buffer, MV_CHECK_POLY, MV_CHECK_INIT, MV_CHECK_ZEROS).reader;
+    MvReader reader;
+    mv_open(&reader, buffer, sizeof buffer, MV_CHECK_POLY, MV_CHECK_INIT, MV_CHECK_ZEROS); /* 0: such a buffer fits */
     size_t n;
     while ((n = fread(piece, 1, most, in)) > 0) {
-        MvAnswer a = mv_push_bytes(reader, buffer, sizeof buffer, piece, n);
-        if (a.number != 0) { /* only 3 can come: 2^48 bytes */
-            fprintf(stderr, "%s: refused by number %" PRIu32 "\n", argv[1], a.number);
+        uint32_t number = mv_push_bytes(&reader, buffer, sizeof buffer, piece, n);
+        if (number != 0) { /* only 3 can come: 2^48 bytes */
+            fprintf(stderr, "%s: refused by number %" PRIu32 "\n", argv[1], number);
             return 2;
         }
-        reader = ask_until_dry(a.reader);
+        ask_until_dry(&reader);
     }
     if (ferror(in)) {
         perror(argv[1]);

@@ -18,8 +18,10 @@ use std::fmt;
 use std::sync::Arc;
 
 pub mod raw;
+pub mod timing;
+pub mod window;
 
-use raw::{MvAnswer, MvReader, MvTimestamp};
+use raw::{MvReader, MvTimestamp, MvUnit};
 
 /// The longest buffer that the library takes.
 pub const BUFFER: usize = 1_048_576;
@@ -92,13 +94,13 @@ pub struct Timestamp {
 
 fn stamp(t: &MvTimestamp) -> Option<Timestamp> {
     (t.present != 0).then_some(Timestamp {
-        hours: t.hours,
-        minutes: t.minutes,
-        seconds: t.seconds,
-        frames: t.frames,
-        samples: t.samples,
-        reserved1: t.reserved1,
-        framerate: t.framerate,
+        hours: t.hours as u16,
+        minutes: t.minutes as u16,
+        seconds: t.seconds as u16,
+        frames: t.frames as u16,
+        samples: t.samples as u16,
+        reserved1: t.reserved1 as u16,
+        framerate: t.framerate as u8,
         reserved2: t.reserved2 != 0,
         dropframe: t.dropframe != 0,
     })
@@ -155,15 +157,18 @@ impl AsRef<[u8]> for Frame {
 #[derive(Clone)]
 pub struct Extractor {
     reader: MvReader,
+    unit: MvUnit,
     buffer: Box<[u8]>,
 }
 
 impl Default for Extractor {
     fn default() -> Self {
         let buffer = vec![0; FIRST].into_boxed_slice();
-        // SAFETY: the pointer and the length are one slice's.
-        let answer = unsafe { raw::mv_open(buffer.as_ptr(), buffer.len(), 0x002D, 0, 0) };
-        Self { reader: answer.reader, buffer }
+        let mut reader = MvReader::default();
+        // SAFETY: the pointer and the length are one slice's, and the record is a local.
+        let number = unsafe { raw::mv_open(&mut reader, buffer.as_ptr(), buffer.len(), 0x002D, 0, 0) };
+        debug_assert_eq!(number, 0, "a buffer of {FIRST} bytes fits");
+        Self { reader, unit: MvUnit::default(), buffer }
     }
 }
 
@@ -192,17 +197,15 @@ impl Extractor {
 
     #[inline]
     fn push(&mut self, data: &[u8]) -> u32 {
-        // SAFETY: each pointer and length are one slice's; `data` can't overlap the buffer, which is borrowed mutably here.
-        let answer = unsafe { raw::mv_push_bytes(self.reader, self.buffer.as_mut_ptr(), self.buffer.len(), data.as_ptr(), data.len()) };
-        self.reader = answer.reader;
-        answer.number
+        // SAFETY: each pointer and length are one slice's; record, buffer and `data` can't overlap, since the first two are borrowed mutably here.
+        unsafe { raw::mv_push_bytes(&mut self.reader, self.buffer.as_mut_ptr(), self.buffer.len(), data.as_ptr(), data.len()) }
     }
 
     /// Number 4: once more with a longer buffer, if the library takes one that is long enough. The record says where bytes stand from the
     /// buffer's start, so it fits the longer one as well.
     #[cold]
     fn push_into_more(&mut self, data: &[u8]) -> Result<(), PushError> {
-        let needed = (self.reader.end - self.reader.start).saturating_add(data.len());
+        let needed = ((self.reader.end - self.reader.start) as usize).saturating_add(data.len());
         if needed > BUFFER {
             return Err(PushError::Room);
         }
@@ -215,29 +218,25 @@ impl Extractor {
         }
     }
 
-    #[inline]
-    fn ask(&mut self) -> MvAnswer {
-        // SAFETY: the pointer and the length are one slice's.
-        let answer = unsafe { raw::mv_next(self.reader, self.buffer.as_ptr(), self.buffer.len()) };
-        self.reader = answer.reader;
-        answer
-    }
-
     /// One request with no copy: the unit lies in the reader's own buffer. `None` is number 8, dry in search or nothing unanswered.
     #[inline]
     pub fn next_unit(&mut self) -> Option<Result<Unit<'_>, ExtractError>> {
-        let a = self.ask();
-        if a.unit != 0 {
-            let data = a.start.checked_add(a.length).and_then(|end| self.buffer.get(a.start..end)).unwrap_or(&[]);
-            return Some(Ok(Unit { timestamp: stamp(&a.timestamp), data, index: a.index, offset: a.position, substreams: a.substreams, major: a.major != 0 }));
-        }
-        match a.number {
-            5 => Some(Err(ExtractError::InvalidAccessUnitLength { actual: a.actual.into(), minimum: a.minimum.into() })),
+        // SAFETY: the pointer and the length are one slice's; record and unit are fields of their own.
+        match unsafe { raw::mv_next(&mut self.reader, self.buffer.as_ptr(), self.buffer.len(), &mut self.unit) } {
+            0 => Some(Ok(self.handed_out())),
+            5 => Some(Err(ExtractError::InvalidAccessUnitLength { actual: self.unit.actual as usize, minimum: self.unit.minimum as usize })),
             6 => Some(Err(ExtractError::ParityCheckFailed)),
             7 => Some(Err(ExtractError::InsufficientData)),
             8 => None,
             _ => unreachable!("a reader from opening fits its buffer"),
         }
+    }
+
+    #[inline]
+    fn handed_out(&self) -> Unit<'_> {
+        let u = &self.unit;
+        let data = &self.buffer[u.start as usize..][..u.length as usize];
+        Unit { timestamp: stamp(&u.timestamp), data, index: u.index, offset: u.position, substreams: u.substreams as u8, major: u.major != 0 }
     }
 
     /// The timestamp that waits for the next unit.

@@ -1,5 +1,5 @@
 //! Document 01's report of EXAMPLE_DATA, whole and in pieces; refusals; forged records.
-use mirvashen::raw::{self, MvReader, MvTimestamp};
+use mirvashen::raw::{self, MvReader, MvTimestamp, MvUnit};
 use mirvashen::{ExtractError, Extractor, PushError, Timestamp, BUFFER, PIECE};
 
 fn example_data() -> Vec<u8> {
@@ -79,45 +79,57 @@ fn the_65536th_unanswered_push_is_refused() {
     assert_eq!(extractor.try_push(&[]), Err(PushError::Pushes));
 }
 
+/// One request on a copy of the record: the number, the record and the unit after it.
+fn ask(reader: MvReader, buffer: &[u8]) -> (u32, MvReader, MvUnit) {
+    let (mut reader, mut unit) = (reader, MvUnit { start: 5, minimum: 6, ..MvUnit::default() });
+    let number = unsafe { raw::mv_next(&mut reader, buffer.as_ptr(), buffer.len(), &mut unit) };
+    (number, reader, unit)
+}
+
 #[test]
-fn a_forged_record_is_number_1_and_comes_back() {
+fn a_forged_record_is_number_1_and_nothing_is_written() {
     let mut buffer = vec![7; 8192];
-    let fit = MvReader { accepted: 0, ..MvReader::default() };
-    let ask = |r: MvReader| unsafe { raw::mv_next(r, buffer.as_ptr(), buffer.len()) };
-    assert_eq!(ask(fit).number, 8);
+    let fit = MvReader::default();
+    assert_eq!(ask(fit, &buffer).0, 8);
     for forged in [
         MvReader { start: 1, ..fit },
-        MvReader { end: usize::MAX, ..fit },
+        MvReader { end: u64::MAX, ..fit },
         MvReader { end: 8193, accepted: 8193, ..fit },
         MvReader { accepted: 1, ..fit },
         MvReader { accepted: u64::MAX, consumed: u64::MAX, ..fit },
         MvReader { frames: u64::MAX, errors: 1, ..fit },
         MvReader { unanswered: 65_536, ..fit },
+        MvReader { unanswered: 1 << 32, ..fit },
         MvReader { substreams: 16, ..fit },
+        MvReader { substreams: 256, ..fit },
         MvReader { locked: 1, ..fit },
+        MvReader { locked: 77, zeros: 9, ..fit },
     ] {
-        let a = ask(forged);
-        assert_eq!((a.number, a.reader), (1, forged));
+        let (number, reader, unit) = ask(forged, &buffer);
+        assert_eq!((number, reader), (1, forged));
+        assert_eq!(unit, MvUnit { start: 5, minimum: 6, ..MvUnit::default() });
+        let mut reader = forged;
+        assert_eq!(unsafe { raw::mv_push_bytes(&mut reader, buffer.as_mut_ptr(), 8192, [1u8, 2].as_ptr(), 2) }, 1);
+        assert_eq!(reader, forged);
     }
+    assert!(buffer.iter().all(|&b| b == 7));
     for length in [0, 8191, 1_048_577] {
         let long = vec![0u8; length];
-        assert_eq!(unsafe { raw::mv_open(long.as_ptr(), length, 0x2D, 0, 0) }.number, 1);
-        assert_eq!(unsafe { raw::mv_next(fit, long.as_ptr(), length) }.number, 1);
+        let mut reader = MvReader { frames: 9, ..fit };
+        assert_eq!(unsafe { raw::mv_open(&mut reader, long.as_ptr(), length, 0x2D, 0, 0) }, 1);
+        assert_eq!(reader, MvReader { frames: 9, ..fit });
+        assert_eq!(ask(fit, &long).0, 1);
     }
-    let a = unsafe { raw::mv_push_bytes(MvReader { substreams: 255, ..fit }, buffer.as_mut_ptr(), 8192, [1u8, 2].as_ptr(), 2) };
-    assert_eq!(a.number, 1);
-    assert!(buffer.iter().all(|&b| b == 7));
 }
 
 #[test]
-fn any_byte_but_zero_is_yes_and_a_rate_code_is_kept() {
+fn any_word_but_zero_is_yes_and_a_rate_code_is_kept() {
     let buffer = vec![0; 8192];
     let stamp = MvTimestamp { hours: 65_535, framerate: 200, present: 255, reserved2: 2, dropframe: 128, ..MvTimestamp::default() };
-    let odd = MvReader { locked: 77, seen: 3, zeros: 9, timestamp: stamp, ..MvReader::default() };
-    let a = unsafe { raw::mv_next(odd, buffer.as_ptr(), buffer.len()) };
+    let odd = MvReader { locked: 77, seen: 3, zeros: 9, unused: 4, timestamp: stamp, ..MvReader::default() };
+    let (number, reader, _) = ask(odd, &buffer);
     let stamp = MvTimestamp { present: 1, reserved2: 1, dropframe: 1, ..stamp };
-    assert_eq!((a.number, a.reader), (8, MvReader { locked: 1, seen: 1, zeros: 1, timestamp: stamp, ..odd }));
+    assert_eq!((number, reader), (8, MvReader { locked: 1, seen: 1, timestamp: stamp, ..odd }));
     let absent = MvReader { timestamp: MvTimestamp { present: 0, ..stamp }, ..MvReader::default() };
-    let a = unsafe { raw::mv_next(absent, buffer.as_ptr(), buffer.len()) };
-    assert_eq!(a.reader.timestamp, MvTimestamp::default());
+    assert_eq!(ask(absent, &buffer).1, absent);
 }

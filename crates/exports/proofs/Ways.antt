@@ -1,118 +1,231 @@
 -- What each way out of a call shows.
-use Prim.Native.Nat.{ℕ, _≤_, _<_}
+use Prim.Native.Nat.{ℕ, _≤_, _<_, _%_}
 use mathlib.Core.Path.{_≡_, refl, sym}
 use mathlib.Core.Bool.{Bool, true, false}
-use borrow.Author.Tests.{lt-ltb, le-ltb}
-use Rattle.laws.specs.Pick.{pick}
-use Rattle.timestamp.specs.declared.Timestamp.{Timestamp}
+use mathlib.Core.List.{List}
+use borrow.Author.Tests.{lt-ltb, le-ltb, eq-eqb, ne-eqb}
+use lib.ListN.{set}
 use Rattle.timestamp.specs.declared.Framerate.{Framerate}
+use Rattle.timestamp.specs.declared.Timestamp.{Timestamp}
 use Rattle.timestamp.specs.Timestamp.{rateOf}
 use Rattle.rules.specs.declared.Waiting.{Waiting}
 use Rattle.rules.specs.declared.Waiting.the-variants.{Nothing, Stamp}
+use Rattle.crc.specs.declared.Algorithm.{Algorithm}
+use Rattle.rules.specs.declared.Stream.{Stream}
 use Rattle.rules.specs.declared.Unit.{Unit as TheUnit}
+use Rattle.extract.specs.Calls.{openedOf, pushedOf, bufferOf, askedOf}
+use Rattle.extract.specs.declared.Asked.{Asked}
 use Rattle.extract.specs.declared.Extractor.{Extractor}
 use Rattle.extract.specs.declared.Opened.{Opened}
 use Rattle.extract.specs.declared.Opened.the-variants.{Open, Refused}
 use Rattle.extract.specs.declared.Answer.{Answer}
 use Rattle.extract.specs.declared.Answer.the-variants.{Unit as AUnit, InvalidAccessUnitLength, ParityCheckFailed, InsufficientData, Quiet, Record}
-use Rattle.extract.specs.declared.Asked.{Asked}
-use Rattle.exports.specs.declared.MvTimestamp.{MvTimestamp}
-use Rattle.exports.specs.declared.MvReader.{MvReader}
-use Rattle.exports.specs.declared.MvAnswer.{MvAnswer}
-use Rattle.exports.specs.Flat.{yesOf, flagOf, rateCode, waitingOf, stampFlat, readerFlat}
-use Rattle.exports.specs.Answers.{plainOf, blankOf, openedFlat, unitFlat, shortFlat, askedFlat}
+use Rattle.extract.specs.declared.Pushed.{Pushed}
+use Rattle.exports.specs.Words.{word, yesOf, flagOf, half, upTo, rateCode, stampOf, waitingOf, stampWords, stampOn, settingOf, checkOf, streamOf, readerOf, leftOn, readerOn}
+use Rattle.exports.specs.Answers.{openedNumber, openedOn, pushNumber, placedOn, pushedOn, unitOn, shortOn, askedNumber, askedUnit, askedOn}
 
-pub is-yes : (b : ℕ) → 0 < b → true ≡ yesOf b
-is-yes b h = sym (lt-ltb 0 b h)
+pub is-yes : (w : ℕ) → 0 < w → true ≡ yesOf w
+is-yes w h = sym (lt-ltb 0 w h)
 
-pub is-no : (b : ℕ) → b ≤ 0 → false ≡ yesOf b
-is-no b h = sym (le-ltb 0 b h)
+pub is-no : (w : ℕ) → w ≤ 0 → false ≡ yesOf w
+is-no w h = sym (le-ltb 0 w h)
 
--- a timestamp, by whether there is one
-module _ (t : MvTimestamp) {p : Bool} (ep : p ≡ yesOf (t .present)) where
-  pub waits : p ≡ true → {f : Framerate} {a b : Bool} → f ≡ rateOf (t .framerate) → a ≡ yesOf (t .reserved2) → b ≡ yesOf (t .dropframe)
-      → _≡_ {A = Waiting}
-      (Stamp
-      (record {
-        hours = t .hours;
-        minutes = t .minutes;
-        seconds = t .seconds;
-        frames = t .frames;
-        samples = t .samples;
-        reserved1 = t .reserved1;
-        framerate = f;
-        reserved2 = a;
-        dropframe = b;
-      }))
-      (waitingOf t)
+module _ (w limit : ℕ) where
+  pub stays : w < limit → w ≡ upTo limit w
+  stays h = rw (lt-ltb w limit h)
+
+  pub caps : limit ≤ w → limit ≡ upTo limit w
+  caps h = rw (le-ltb w limit h)
+
+-- a timestamp's words, of which three are read by a call
+pub stamps : (ws : List ℕ) {f : Framerate} {a b : Bool} → f ≡ rateOf (word ws 7 % 256) → a ≡ yesOf (word ws 8) → b ≡ yesOf (word ws 9)
+    → _≡_ {A = Timestamp}
+    (record {
+      hours = half (word ws 1);
+      minutes = half (word ws 2);
+      seconds = half (word ws 3);
+      frames = half (word ws 4);
+      samples = half (word ws 5);
+      reserved1 = half (word ws 6);
+      framerate = f;
+      reserved2 = a;
+      dropframe = b;
+    })
+    (stampOf ws)
+unfolding stampOf
+stamps ws ef ea eb = rw (ef, ea, eb)
+
+-- a timestamp, by whether there is one: read from the words ..
+module _ (ws : List ℕ) {p : Bool} (ep : p ≡ yesOf (word ws 0)) where
+  pub waits : p ≡ true → {t : Timestamp} → t ≡ stampOf ws → Stamp t ≡ waitingOf ws
   unfolding waitingOf
-  waits q ef ea eb = rw (ef, ea, eb, ← ep, q)
+  waits q et = rw (et, ← ep, q)
 
-  pub waits-not : p ≡ false → Nothing ≡ waitingOf t
+  pub waits-not : p ≡ false → Nothing ≡ waitingOf ws
   unfolding waitingOf
   waits-not q = rw (← ep, q)
 
-module _ {w : Waiting} where
-  pub lays-nothing : w ≡ Nothing
-      → _≡_ {A = MvTimestamp}
-      (record {
-        hours = 0;
-        minutes = 0;
-        seconds = 0;
-        frames = 0;
-        samples = 0;
-        reserved1 = 0;
-        present = 0;
-        framerate = 0;
-        reserved2 = 0;
-        dropframe = 0;
-      })
-      (stampFlat w)
-  unfolding stampFlat
+-- .. and laid on them
+module _ (ws : List ℕ) {w : Waiting} where
+  pub lays-nothing : w ≡ Nothing → set ws 0 0 ≡ stampOn ws w
+  unfolding stampOn
   lays-nothing q = rw q
 
-  pub lays-stamp : {t : Timestamp} → w ≡ Stamp t → {f a b : ℕ} → f ≡ rateCode (t .framerate) → a ≡ flagOf (t .reserved2) → b ≡ flagOf (t .dropframe)
-      → _≡_ {A = MvTimestamp}
-      (record {
-        hours = t .hours;
-        minutes = t .minutes;
-        seconds = t .seconds;
-        frames = t .frames;
-        samples = t .samples;
-        reserved1 = t .reserved1;
-        present = 1;
-        framerate = f;
-        reserved2 = a;
-        dropframe = b;
-      })
-      (stampFlat w)
-  unfolding stampFlat
-  lays-stamp q ef ea eb = rw (q, ef, ea, eb)
+  pub lays-stamp : {t : Timestamp} → w ≡ Stamp t → {x : List ℕ} → x ≡ stampWords ws t → x ≡ stampOn ws w
+  unfolding stampOn
+  lays-stamp q ex = rw (q, ex)
+
+-- the stream's words, and the record's
+pub streams : (ws : List ℕ) {k : ℕ} {l s : Bool} {w : Waiting} {c : Algorithm}
+    → k ≡ upTo 16 (word ws 17) → l ≡ yesOf (word ws 18) → s ≡ yesOf (word ws 19) → w ≡ waitingOf ws → c ≡ checkOf ws
+    → _≡_ {A = Stream}
+    (record {
+      consumed = record { 0 = word ws 14 };
+      frames = word ws 15;
+      losses = record { errors = word ws 16 };
+      substreams = k;
+      locked = l;
+      seen = s;
+      waiting = w;
+      check = c;
+    })
+    (streamOf ws)
+unfolding streamOf
+streams ws ek el es ew ec = rw (ek, el, es, ew, ec)
+
+pub readers : (ws : List ℕ) {n : ℕ} {s : Stream} → n ≡ upTo 65536 (word ws 13) → s ≡ streamOf ws
+    → _≡_ {A = Extractor} (record { start = word ws 10; end = word ws 11; accepted = word ws 12; unanswered = n; stream = s }) (readerOf ws)
+unfolding readerOf
+readers ws en es = rw (en, es)
+
+-- a piece, by whether it is accepted
+module _ (ws : List ℕ) (p : Pushed) {number : ℕ} (en : number ≡ pushNumber (p .answer)) where
+  pub accepts : number ≡ 0 → placedOn ws (p .extractor) ≡ pushedOn ws p
+  unfolding pushedOn
+  accepts h = rw (← en, eq-eqb number 0 h)
+
+  pub refuses : (number ≡ 0 → ⊥) → ws ≡ pushedOn ws p
+  unfolding pushedOn
+  refuses h = rw (← en, ne-eqb number 0 h)
+
+-- a request's record, by whether number 1 is answered
+module _ (ws : List ℕ) (number : ℕ) (e : Extractor) where
+  pub leaves : (number ≡ 1 → ⊥) → {x : List ℕ} → x ≡ leftOn ws e → x ≡ askedOn ws number e
+  unfolding askedOn
+  leaves h ex = rw (ex, ne-eqb number 1 h)
+
+  pub leaves-as-it-was : number ≡ 1 → ws ≡ askedOn ws number e
+  unfolding askedOn
+  leaves-as-it-was h = rw (eq-eqb number 1 h)
 
 -- an opening, by its case
-module _ {o : Opened} {x : MvAnswer} where
-  pub opens-flat : {e : Extractor} → o ≡ Open e → {r : MvReader} → r ≡ readerFlat e → x ≡ plainOf r 0 → x ≡ openedFlat o
-  opens-flat q er ex = rw (q, ex, er)
+pub opens-number : {o : Opened} {e : Extractor} → o ≡ Open e → 0 ≡ openedNumber o
+opens-number q = rw q
 
-  pub refuses-flat : o ≡ Refused → {r : MvReader} → r ≡ blankOf → x ≡ plainOf r 1 → x ≡ openedFlat o
-  refuses-flat q er ex = rw (q, ex, er)
+module _ (ws : List ℕ) {o : Opened} where
+  pub opens : {e : Extractor} → o ≡ Open e → {x : List ℕ} → x ≡ readerOn ws e → x ≡ openedOn ws o
+  unfolding openedOn
+  opens q ex = rw (q, ex)
 
--- a request, by its case
-module _ (asked : Asked) {r : MvReader} (er : r ≡ readerFlat (asked .extractor)) {x : MvAnswer} where
-  pub asks-unit : {u : TheUnit} {start : ℕ} → asked .answer ≡ AUnit u start → x ≡ unitFlat r u start → x ≡ askedFlat asked
-  asks-unit q ex = rw (q, ex, er)
+  pub opens-not : o ≡ Refused → ws ≡ openedOn ws o
+  unfolding openedOn
+  opens-not q = rw q
 
-  pub asks-short : {a m : ℕ} → asked .answer ≡ InvalidAccessUnitLength a m → x ≡ shortFlat r a m → x ≡ askedFlat asked
-  asks-short q ex = rw (q, ex, er)
+-- what a request says, by its case
+module _ (ws : List ℕ) {a : Answer} where
+  pub says-unit : {u : TheUnit} {start : ℕ} → a ≡ AUnit u start → {x : List ℕ} → x ≡ unitOn ws u start → x ≡ askedUnit ws a
+  unfolding askedUnit
+  says-unit q ex = rw (q, ex)
 
-  pub asks-failed : asked .answer ≡ ParityCheckFailed → x ≡ plainOf r 6 → x ≡ askedFlat asked
-  asks-failed q ex = rw (q, ex, er)
+  pub says-short : {actual minimum : ℕ} → a ≡ InvalidAccessUnitLength actual minimum → {x : List ℕ} → x ≡ shortOn ws actual minimum
+      → x ≡ askedUnit ws a
+  unfolding askedUnit
+  says-short q ex = rw (q, ex)
 
-  pub asks-insufficient : asked .answer ≡ InsufficientData → x ≡ plainOf r 7 → x ≡ askedFlat asked
-  asks-insufficient q ex = rw (q, ex, er)
+  pub says-failed : a ≡ ParityCheckFailed → ws ≡ askedUnit ws a
+  unfolding askedUnit
+  says-failed q = rw q
 
-  pub asks-quiet : asked .answer ≡ Quiet → x ≡ plainOf r 8 → x ≡ askedFlat asked
-  asks-quiet q ex = rw (q, ex, er)
+  pub says-insufficient : a ≡ InsufficientData → ws ≡ askedUnit ws a
+  unfolding askedUnit
+  says-insufficient q = rw q
 
-  pub asks-refused : asked .answer ≡ Record → x ≡ plainOf r 1 → x ≡ askedFlat asked
-  asks-refused q ex = rw (q, ex, er)
+  pub says-quiet : a ≡ Quiet → ws ≡ askedUnit ws a
+  unfolding askedUnit
+  says-quiet q = rw q
+
+  pub says-refused : a ≡ Record → ws ≡ askedUnit ws a
+  unfolding askedUnit
+  says-refused q = rw q
+
+-- a request, through the record that the words say
+module _ (ws us buf : List ℕ) {e : Extractor} (ee : e ≡ readerOf ws) {a : Asked} (ea : a ≡ askedOf e buf) where
+  pub next-number : {n : ℕ} → n ≡ askedNumber (a .answer) → n ≡ askedNumber (askedOf (readerOf ws) buf .answer)
+  next-number en = rw (en, ea, ee)
+
+  pub next-unit : {x : List ℕ} → x ≡ askedUnit us (a .answer) → x ≡ askedUnit us (askedOf (readerOf ws) buf .answer)
+  next-unit ex = rw (ex, ea, ee)
+
+  pub next-record : {n : ℕ} → n ≡ askedNumber (a .answer) → {x : List ℕ} → x ≡ askedOn ws n (a .extractor)
+      → x ≡ askedOn ws (askedNumber (askedOf (readerOf ws) buf .answer)) (askedOf (readerOf ws) buf .extractor)
+  next-record en ex = rw (ex, en, ea, ee)
+
+-- an opening and a piece, likewise
+module _ (n poly init zeros : ℕ) {b : Bool} (eb : b ≡ yesOf zeros) {o : Opened} (eo : o ≡ openedOf n (record { poly = poly; init = init; zeros = b })) where
+  pub open-number : {k : ℕ} → k ≡ openedNumber o → k ≡ openedNumber (openedOf n (settingOf poly init zeros))
+  open-number ek = rw (ek, eo, eb)
+
+  pub open-record : (ws : List ℕ) {x : List ℕ} → x ≡ openedOn ws o → x ≡ openedOn ws (openedOf n (settingOf poly init zeros))
+  open-record ws ex = rw (ex, eo, eb)
+
+module _ (ws : List ℕ) (n k : ℕ) {e : Extractor} (ee : e ≡ readerOf ws) where
+  pub push-number : {p : Pushed} → p ≡ pushedOf e n k → {m : ℕ} → m ≡ pushNumber (p .answer) → m ≡ pushNumber (pushedOf (readerOf ws) n k .answer)
+  push-number ep em = rw (em, ep, ee)
+
+  pub push-record : {p : Pushed} → p ≡ pushedOf e n k → {x : List ℕ} → x ≡ pushedOn ws p → x ≡ pushedOn ws (pushedOf (readerOf ws) n k)
+  push-record ep ex = rw (ex, ep, ee)
+
+pub push-holds : (ws buf piece : List ℕ) {e : Extractor} → e ≡ readerOf ws → {x : List ℕ} → x ≡ bufferOf e buf piece → x ≡ bufferOf (readerOf ws) buf piece
+push-holds ws buf piece ee ex = rw (ex, ee)
+
+-- the words of a record and of a unit, of which some are made by a call
+module _ (ws : List ℕ) where
+  pub lays-words : (t : Timestamp) {f a b : ℕ} → f ≡ rateCode (t .framerate) → a ≡ flagOf (t .reserved2) → b ≡ flagOf (t .dropframe)
+      → set
+      (set
+      (set (set (set (set (set (set (set (set ws 0 1) 1 (t .hours)) 2 (t .minutes)) 3 (t .seconds)) 4 (t .frames)) 5 (t .samples)) 6 (t .reserved1)) 7 f)
+      8 a)
+      9 b
+      ≡ stampWords ws t
+  unfolding stampWords
+  lays-words t ef ea eb = rw (ef, ea, eb)
+
+  pub lays-left : (e : Extractor) {l s : ℕ} → l ≡ flagOf (e .stream .locked) → s ≡ flagOf (e .stream .seen) → {x : List ℕ}
+      → x
+      ≡ stampOn
+      (set
+      (set
+      (set
+      (set (set (set (set (set ws 10 (e .start)) 13 (e .unanswered)) 14 (e .stream .consumed .0)) 15 (e .stream .frames)) 16 (e .stream .losses .errors))
+      17 (e .stream .substreams))
+      18 l)
+      19 s)
+      (e .stream .waiting)
+      → x ≡ leftOn ws e
+  unfolding leftOn
+  lays-left e el es ex = rw (ex, el, es)
+
+  pub lays-reader : (e : Extractor) {z : ℕ} → z ≡ flagOf (e .stream .check .zeros) → {x : List ℕ}
+      → x ≡ leftOn (set (set (set (set (set ws 11 (e .end)) 12 (e .accepted)) 20 (e .stream .check .poly)) 21 (e .stream .check .init)) 22 z) e → x ≡ readerOn ws e
+  unfolding readerOn
+  lays-reader e ez ex = rw (ex, ez)
+
+  pub lays-unit : (u : TheUnit) (start : ℕ) {m : ℕ} → m ≡ flagOf (u .major) → {x : List ℕ}
+      → x ≡ stampOn (set (set (set (set (set (set ws 10 start) 11 (u .length)) 12 (u .index)) 13 (u .position .0)) 14 m) 15 (u .substreams)) (u .waiting)
+      → x ≡ unitOn ws u start
+  unfolding unitOn
+  lays-unit u start em ex = rw (ex, em)
+
+  pub settings : {b : Bool} → b ≡ yesOf (word ws 22) → _≡_ {A = Algorithm} (record { poly = half (word ws 20); init = half (word ws 21); zeros = b }) (checkOf ws)
+  unfolding checkOf
+  settings eb = rw eb

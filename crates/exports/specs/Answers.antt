@@ -1,113 +1,62 @@
--- Each answer of the library laid flat, with the number of document 01's table: definitions only.
+-- Each answer of the library as document 01's number, and what it writes in the lent words: definitions only.
 use Prim.Native.Nat.{ℕ}
-use Rattle.rules.specs.declared.Waiting.the-variants.{Nothing}
+use mathlib.Core.List.{List}
+use lib.Dec.{eqb}
+use lib.ListN.{set}
+use Rattle.laws.specs.Pick.{pick}
 use Rattle.rules.specs.declared.Unit.{Unit as TheUnit}
 use Rattle.extract.specs.Calls as Calls
+use Rattle.extract.specs.declared.Extractor.{Extractor}
 use Rattle.extract.specs.declared.Opened.{Opened}
 use Rattle.extract.specs.declared.Opened.the-variants.{Open, Refused}
 use Rattle.extract.specs.declared.PushAnswer.{PushAnswer}
 use Rattle.extract.specs.declared.Pushed.{Pushed}
 use Rattle.extract.specs.declared.Answer.{Answer}
 use Rattle.extract.specs.declared.Answer.the-variants.{Unit as AUnit, InvalidAccessUnitLength, ParityCheckFailed, InsufficientData, Quiet, Record}
-use Rattle.extract.specs.declared.Asked.{Asked}
-use Rattle.exports.specs.declared.MvTimestamp.{MvTimestamp}
-use Rattle.exports.specs.declared.MvReader.{MvReader}
-use Rattle.exports.specs.declared.MvAnswer.{MvAnswer}
-use Rattle.exports.specs.Flat.{flagOf, stampFlat, readerFlat}
+use Rattle.exports.specs.Words.{flagOf, stampOn, leftOn, readerOn}
 
--- a record and a number, and no unit
-unfoldable pub plainOf : MvReader → ℕ → MvAnswer
-plainOf r number =
-    record {
-      reader = r;
-      start = 0;
-      length = 0;
-      index = 0;
-      position = 0;
-      number = number;
-      actual = 0;
-      minimum = 0;
-      unit = 0;
-      major = 0;
-      substreams = 0;
-      timestamp = stampFlat Nothing;
-    }
+-- OPENING: number 1 where it is refused; then nothing is written
+abbrev pub openedNumber : Opened → ℕ
+openedNumber (Open e) = 0
+openedNumber Refused = 1
 
--- the record of a refused opening
-unfoldable pub blankOf : MvReader
-blankOf =
-    record {
-      start = 0;
-      end = 0;
-      accepted = 0;
-      consumed = 0;
-      frames = 0;
-      errors = 0;
-      unanswered = 0;
-      poly = 0;
-      init = 0;
-      zeros = 0;
-      substreams = 0;
-      locked = 0;
-      seen = 0;
-      timestamp = stampFlat Nothing;
-    }
+unfoldable pub openedOn : List ℕ → Opened → List ℕ
+openedOn ws (Open e) = readerOn ws e
+openedOn ws Refused = ws
 
--- OPENING: number 1 where it is refused
-abbrev pub openedFlat : Opened → MvAnswer
-openedFlat (Open e) = plainOf (readerFlat e) 0
-openedFlat Refused = plainOf blankOf 1
-
--- A PUSH: numbers 1 to 4
+-- A PUSH: numbers 1 to 4 write nothing
 abbrev pub pushNumber : PushAnswer → ℕ
 pushNumber a = Calls.pushNumber a
 
-abbrev pub pushedFlat : Pushed → MvAnswer
-pushedFlat p = plainOf (readerFlat (p .extractor)) (pushNumber (p .answer))
+abbrev pub placedOn : List ℕ → Extractor → List ℕ
+placedOn ws e = set (set (set (set ws 10 (e .start)) 11 (e .end)) 12 (e .accepted)) 13 (e .unanswered)
+
+unfoldable pub pushedOn : List ℕ → Pushed → List ℕ
+pushedOn ws p = pick (eqb (pushNumber (p .answer)) 0) (placedOn ws (p .extractor)) ws
 
 -- A REQUEST: "A unit carries index, position and timestamp if one waits"; its bytes are those at start in the lent buffer
-unfoldable pub unitFlat : MvReader → TheUnit → ℕ → MvAnswer
-unitFlat r u start =
-    record {
-      reader = r;
-      start = start;
-      length = u .length;
-      index = u .index;
-      position = u .position .0;
-      number = 0;
-      actual = 0;
-      minimum = 0;
-      unit = 1;
-      major = flagOf (u .major);
-      substreams = u .substreams;
-      timestamp = stampFlat (u .waiting);
-    }
+unfoldable pub unitOn : List ℕ → TheUnit → ℕ → List ℕ
+unitOn ws u start =
+    stampOn
+    (set (set (set (set (set (set ws 10 start) 11 (u .length)) 12 (u .index)) 13 (u .position .0)) 14 (flagOf (u .major))) 15 (u .substreams))
+    (u .waiting)
 
 -- number 5, "actual and minimum"
-unfoldable pub shortFlat : MvReader → ℕ → ℕ → MvAnswer
-shortFlat r actual minimum =
-    record {
-      reader = r;
-      start = 0;
-      length = 0;
-      index = 0;
-      position = 0;
-      number = 5;
-      actual = actual;
-      minimum = minimum;
-      unit = 0;
-      major = 0;
-      substreams = 0;
-      timestamp = stampFlat Nothing;
-    }
+abbrev pub shortOn : List ℕ → ℕ → ℕ → List ℕ
+shortOn ws actual minimum = set (set ws 16 actual) 17 minimum
 
-abbrev pub answerFlat : MvReader → Answer → MvAnswer
-answerFlat r (AUnit unit start) = unitFlat r unit start
-answerFlat r (InvalidAccessUnitLength actual minimum) = shortFlat r actual minimum
-answerFlat r ParityCheckFailed = plainOf r (Calls.answerNumber ParityCheckFailed)
-answerFlat r InsufficientData = plainOf r (Calls.answerNumber InsufficientData)
-answerFlat r Quiet = plainOf r (Calls.answerNumber Quiet)
-answerFlat r Record = plainOf r (Calls.answerNumber Record)
+abbrev pub askedNumber : Answer → ℕ
+askedNumber a = Calls.answerNumber a
 
-abbrev pub askedFlat : Asked → MvAnswer
-askedFlat a = answerFlat (readerFlat (a .extractor)) (a .answer)
+-- the lent unit
+unfoldable pub askedUnit : List ℕ → Answer → List ℕ
+askedUnit ws (AUnit unit start) = unitOn ws unit start
+askedUnit ws (InvalidAccessUnitLength actual minimum) = shortOn ws actual minimum
+askedUnit ws ParityCheckFailed = ws
+askedUnit ws InsufficientData = ws
+askedUnit ws Quiet = ws
+askedUnit ws Record = ws
+
+-- the lent record: number 1 writes nothing
+unfoldable pub askedOn : List ℕ → ℕ → Extractor → List ℕ
+askedOn ws number e = pick (eqb number 1) ws (leftOn ws e)

@@ -1,3 +1,3 @@
-pub mod Flat
+pub mod Words
 pub mod Answers
-pub mod FlatLaws
+pub mod WordLaws

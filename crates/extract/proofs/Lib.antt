@@ -2,7 +2,5 @@ pub mod One
 mod Ways
 mod Copies
 mod PushWays
-mod SearchWays
-mod UnitWays
 mod StepWays
 mod NextWays

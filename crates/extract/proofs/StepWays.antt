@@ -5,7 +5,7 @@ use mathlib.Core.Path.{_≡_, refl, sym, ap, _∙_}
 use mathlib.Core.Bool.{Bool, true, false}
 use mathlib.Core.Option.{Option, none, some}
 use mathlib.Core.List.{List}
-use lib.ListN.{length, take, drop, length-take, length-drop}
+use lib.ListN.{length, take, drop, length-drop}
 use lib.Seq.{drop-drop, take-all}
 use Rattle.laws.specs.Pick.{pick}
 use Rattle.laws.specs.First.{Place, At, Nowhere}
@@ -27,11 +27,11 @@ use Rattle.rules.specs.FitLaws.{Fit}
 use Rattle.extract.specs.declared.step.Outcome.{Outcome}
 use Rattle.extract.specs.declared.step.Outcome.the-variants.{Dry, Quiet, Handed, TooShort, Failed as CheckFailed}
 use Rattle.extract.specs.declared.step.Stepped.{Stepped}
-use Rattle.extract.specs.declared.search.Found.{Found}
-use Rattle.extract.specs.declared.search.Found.the-variants.{At as FoundAt, Nowhere as FoundNowhere}
-use Rattle.extract.specs.declared.search.Judged.{Judged}
-use Rattle.extract.specs.declared.search.Judged.the-variants.{Given, Missing}
-use Rattle.extract.specs.Means.{foundOf, judgedOf}
+use Rattle.judging.specs.declared.search.Found.{Found}
+use Rattle.judging.specs.declared.search.Found.the-variants.{At as FoundAt, Nowhere as FoundNowhere}
+use Rattle.judging.specs.declared.search.Judged.{Judged}
+use Rattle.judging.specs.declared.search.Judged.the-variants.{Given, Missing}
+use Rattle.judging.specs.Means.{foundOf, judgedOf}
 use Rattle.extract.specs.Steps.{Roomy, Ready, arrivedOf, verdictOf, settledOf, steppedOf, Within, StepsAs, FoundIn}
 
 -- a verdict, by its case
@@ -145,9 +145,6 @@ module _ (s : Stream) (u : List ℕ) (searching : s .locked ≡ false) {f : Foun
 
 -- at a candidate
 module _ (n : ℕ) (s : Stream) (u : List ℕ) (f : FoundIn n s u) where
-  pub candidate-there : 8 ≤ length (take (length u - n) (drop n u))
-  candidate-there = let l = f .inside in simp (length-take, length-drop) (omega arith)
-
   searched : stepBy (s .locked) s u ≡ settle (act (arrive n u s)) (arrive n u s) (drop n u) (decide (candidate (s .check)) (drop n u))
   unfolding search
   searched = step-searching s u (f .searching) ∙ ap (search s u) (f .found)

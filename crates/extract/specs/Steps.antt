@@ -18,8 +18,8 @@ use Rattle.rules.specs.Request.{lose, lock, passOn, unitOf, Event, handed, tooS
 use Rattle.extract.specs.declared.step.Outcome.{Outcome}
 use Rattle.extract.specs.declared.step.Outcome.the-variants.{Dry, Quiet, Handed, TooShort, Failed as CheckFailed}
 use Rattle.extract.specs.declared.step.Stepped.{Stepped}
-use Rattle.extract.specs.declared.search.Judged.{Judged}
-use Rattle.extract.specs.declared.search.Judged.the-variants.{Given, Missing}
+use Rattle.judging.specs.declared.search.Judged.{Judged}
+use Rattle.judging.specs.declared.search.Judged.the-variants.{Given, Missing}
 
 -- n more bytes, one more frame or one more error fit the counts
 pub record Roomy (s : Stream) (n : ℕ) : Type 0 where

@@ -15,9 +15,7 @@ ghost use Rattle.extract.specs.Record.{roomFits, recordFits, fitsOf, unr
 ghost use Rattle.extract.specs.Fits.{Fits};
 ghost use Rattle.extract.specs.Calls.{openedOf, pushedOf, bufferOf, leftAt, dryAt, spokenAt, answeredOf, askedOf, partOf};
 
-mod search;
 mod step;
-mod unit;
 
 use crate::step::Outcome;
 use crate::step::step;

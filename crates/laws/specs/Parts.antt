@@ -3,7 +3,7 @@ use mathlib.Core.Path.{_≡_, refl, sym, ap, _∙_}
 use mathlib.Core.List.{List, [], _∷_, _++_}
 use Prim.Native.Nat.{ℕ, zero, suc, _+_, _-_, _≤_, _<_, min}
 use native.Mathlib.Omega.{arith}
-use lib.ListN.{length, getD, take, drop, length-take, length-drop, length-append, List·getD-append, List·getD-eq-default}
+use lib.ListN.{length, replicate, getD, take, drop, length-replicate, length-take, length-drop, length-append, List·getD-append, List·getD-eq-default}
 use lib.Seq.{take-append-le, drop-append-le, getD-take, getD-drop, take-take, drop-drop, take-add, take-length, take-nil}
 
 -- the byte at a place, 0 past the end
@@ -23,6 +23,10 @@ unfolding Bytes
 byte-lt [] i h = omega arith
 byte-lt (x ∷ s) zero h = h 0 (omega arith)
 byte-lt (x ∷ s) (suc i) h = byte-lt s i (λ k l. h (suc k) (omega arith))
+
+-- how long a list of zeros is, whatever its length: a search would count
+pub repeated : (n : ℕ) → n ≡ length {A = ℕ} (replicate {A = ℕ} n 0)
+repeated n = sym (length-replicate n 0)
 
 module _ (s : List ℕ) (at n : ℕ) (inside : at + n ≤ length s) where
   pub length-part : length (part s at n) ≡ n

@@ -12,11 +12,11 @@ use crate::show::put_window_answer;
 use crate::words::low8;
 use crate::words::low32;
 use crate::words::numbers_from;
+use byte_caps::Cap;
 use kinds::SampleTime;
 use timing::HiresOutputTimingState;
 use timing::TimingContext;
 use timing::Updated;
-use window::Cap;
 use window::Contribution;
 use window::Window;
 
@@ -275,7 +275,7 @@ pub(crate) fn cap_call(line: &[u8], from: usize, out: &mut [u8], at: usize) -> u
     }
     if check::same(call, b"fba") {
         if n.count == 1 {
-            let a = put_cap(out, at, window::fba_cap(n.value[0] as usize));
+            let a = put_cap(out, at, byte_caps::fba_cap(n.value[0] as usize));
             return put(out, a, b"\n");
         }
     }
@@ -284,7 +284,7 @@ pub(crate) fn cap_call(line: &[u8], from: usize, out: &mut [u8], at: usize) -> u
             let a = put_cap(
                 out,
                 at,
-                window::fbb_cap(n.value[0] as usize, low8(n.value[1])),
+                byte_caps::fbb_cap(n.value[0] as usize, low8(n.value[1])),
             );
             return put(out, a, b"\n");
         }

@@ -2,6 +2,9 @@
 // `BAD number position`; a last line, `END position errors`. Dry answers print nothing. The lines of a piece are gathered in a lent slice,
 // so that there are no more writes than pieces, but where a piece's lines fill the slice.
 ghost use Prim.Native.Nat.{_≤_, _<_};
+ghost use mathlib.Core.Path.{_≡_};
+ghost use mathlib.Core.List.{[], _∷_};
+ghost use Rattle.reporting.specs.Lines.{puts, pairWords, pairLineWords, kindText, stampText, unitWords};
 use extract::Answer;
 use extract::Extractor;
 use extract::PushAnswer;
@@ -35,7 +38,10 @@ struct Gathered {
 }
 
 // `LABEL a b`
-fn put_pair(out: &mut [u8], at: usize, label: &[u8], a: u64, b: u64) -> usize {
+fn put_pair(out: &mut [u8], at: usize, label: &[u8], a: u64, b: u64) -> usize
+    ensures at { λ r. ⌜ r ≡ puts (now (out .entry)) at (pairWords (now (label .entry)) a b) .at ⌝ }
+    ensures holds { λ _. ⌜ now (out .exit) ≡ puts (now (out .entry)) at (pairWords (now (label .entry)) a b) .holds ⌝ }
+{
     let mut end = text::put(out, at, label);
     end = text::put_decimal(out, end, a);
     end = text::put(out, end, b" ");
@@ -43,12 +49,18 @@ fn put_pair(out: &mut [u8], at: usize, label: &[u8], a: u64, b: u64) -> usize {
 }
 
 // The same as a line of its own.
-fn put_pair_line(out: &mut [u8], at: usize, label: &[u8], a: u64, b: u64) -> usize {
+fn put_pair_line(out: &mut [u8], at: usize, label: &[u8], a: u64, b: u64) -> usize
+    ensures at { λ r. ⌜ r ≡ puts (now (out .entry)) at (pairLineWords (now (label .entry)) a b) .at ⌝ }
+    ensures holds { λ _. ⌜ now (out .exit) ≡ puts (now (out .entry)) at (pairLineWords (now (label .entry)) a b) .holds ⌝ }
+{
     let end = put_pair(out, at, label, a, b);
     text::put(out, end, b"\n")
 }
 
-fn put_kind(out: &mut [u8], at: usize, major: bool) -> usize {
+fn put_kind(out: &mut [u8], at: usize, major: bool) -> usize
+    ensures at { λ r. ⌜ r ≡ puts (now (out .entry)) at (kindText major ∷ []) .at ⌝ }
+    ensures holds { λ _. ⌜ now (out .exit) ≡ puts (now (out .entry)) at (kindText major ∷ []) .holds ⌝ }
+{
     if major {
         text::put(out, at, b" major")
     } else {
@@ -56,7 +68,10 @@ fn put_kind(out: &mut [u8], at: usize, major: bool) -> usize {
     }
 }
 
-fn put_stamp(out: &mut [u8], at: usize, waiting: Waiting) -> usize {
+fn put_stamp(out: &mut [u8], at: usize, waiting: Waiting) -> usize
+    ensures at { λ r. ⌜ r ≡ puts (now (out .entry)) at (stampText waiting ∷ []) .at ⌝ }
+    ensures holds { λ _. ⌜ now (out .exit) ≡ puts (now (out .entry)) at (stampText waiting ∷ []) .holds ⌝ }
+{
     match waiting {
         Waiting::Stamp(_) => text::put(out, at, b" ts\n"),
         Waiting::Nothing => text::put(out, at, b" -\n"),
@@ -64,7 +79,10 @@ fn put_stamp(out: &mut [u8], at: usize, waiting: Waiting) -> usize {
 }
 
 // `AU index position length major|minor ts|-`
-fn put_unit(out: &mut [u8], at: usize, unit: Unit) -> usize {
+fn put_unit(out: &mut [u8], at: usize, unit: Unit) -> usize
+    ensures at { λ r. ⌜ r ≡ puts (now (out .entry)) at (unitWords unit) .at ⌝ }
+    ensures holds { λ _. ⌜ now (out .exit) ≡ puts (now (out .entry)) at (unitWords unit) .holds ⌝ }
+{
     let mut end = put_pair(out, at, b"AU ", unit.index, unit.position.0);
     end = text::put(out, end, b" ");
     end = text::put_decimal(out, end, unit.length as u64);

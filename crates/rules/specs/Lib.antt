@@ -13,5 +13,6 @@ pub mod MeaningLaws
 pub mod UnitLaws
 pub mod OutcomeLaws
 pub mod StampLaws
+pub mod CarryLaws
 pub mod HandedLaws
 pub mod CompleteLaws

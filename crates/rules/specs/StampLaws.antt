@@ -39,7 +39,7 @@ pub nothing-waits : {P : Type 0} (t : Timestamp) → Nothing ≡ Waits t → P
 nothing-waits t e = absurd (let z : _≡_ {A = ℕ} 0 1 = cc in omega arith)
 
 -- "Consuming any byte drops a waiting timestamp"
-kept-tells : (n : ℕ) (w : Waiting) (t : Timestamp) → kept n w ≡ Waits t → (n ≡ 0) × (w ≡ Waits t)
+pub kept-tells : (n : ℕ) (w : Waiting) (t : Timestamp) → kept n w ≡ Waits t → (n ≡ 0) × (w ≡ Waits t)
 kept-tells zero w t e = (refl, e)
 kept-tells (suc n) w t e = nothing-waits t e
 
@@ -52,7 +52,7 @@ pub stamp-stored : (s : Stream) (u : List ℕ) (n : ℕ) → s .seen ≡ false �
 stamp-stored s u n e l = rw e (stamp-read n u (s .waiting) l)
 
 -- What waits at a candidate was stored there, or waited before and no byte was consumed.
-stampAt-tells : (P : Type 0) (seen : Bool) (n : ℕ) (u : List ℕ) (w : Waiting) (t : Timestamp)
+pub stampAt-tells : (P : Type 0) (seen : Bool) (n : ℕ) (u : List ℕ) (w : Waiting) (t : Timestamp)
     → (seen ≡ false → 16 ≤ n → parseOf (part u (n - 16) 16) ≡ Parses t → P) → (n ≡ 0 → w ≡ Waits t → P) → stampAt seen n u w ≡ Waits t → P
 unfolding stampAt
 stampAt-tells P true n u w t f g e = let k = kept-tells n w t e in g (k .0) (k .1)

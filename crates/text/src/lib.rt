@@ -1,12 +1,14 @@
 // Lines, words and numbers, read from a script and written for a report, for the programs. No part of document 01: what a program reads is turned here into slices and
 // numbers, and everything that matters happens in the proved libraries.
 ghost use mathlib.Core.Path.{_≡_};
+ghost use mathlib.Core.Bool.{true};
 ghost use Prim.Native.Nat.{_+_, _≤_, min};
 ghost use lib.ListN.{length};
 ghost use lib.Seq.{paste};
 ghost use Rattle.io.specs.Counts.{Counts};
-ghost use Rattle.text.specs.Put.{putOf, putEnd, Spelt};
-ghost use Rattle.text.specs.Text.{Within};
+ghost use Rattle.text.specs.Numbers.{hexDigitOf, decimalDigitOf, hexNumberOf, decimalNumberOf, allHex, pairsOf, hexBytesOf, hexBytesOn};
+ghost use Rattle.text.specs.Put.{putOf, putEnd, decimalOf};
+ghost use Rattle.text.specs.Text.{Within, lineEndOf, wordFrom, wordTo, nextWordOf};
 
 // A stretch of a slice: from the first place to the one past the last.
 pub struct Word {
@@ -27,7 +29,8 @@ pub enum Number {
 
 // The value of a hexadecimal digit, 16 where it is none.
 fn digit(b: u8) -> u8
-    ensures { λ r. ⌜ r ≤ 16 ⌝ }
+    ensures value { λ r. ⌜ r ≡ hexDigitOf b ⌝ }
+    ensures within { λ r. ⌜ r ≤ 16 ⌝ }
 {
     match b {
         48..=57 => b - 48,
@@ -39,22 +42,24 @@ fn digit(b: u8) -> u8
 
 // The place of the line's end at or after `at`: of the line feed, or past the last byte.
 pub fn line_end(s: &[u8], at: usize) -> usize
-    ensures { λ r. ⌜ Within (min at (length (now (s .entry)))) r (length (now (s .entry))) ⌝ }
+    ensures place { λ r. ⌜ r ≡ lineEndOf (now (s .entry)) at ⌝ }
+    ensures within { λ r. ⌜ Within (min at (length (now (s .entry)))) r (length (now (s .entry))) ⌝ }
 {
     let mut i = at;
     while i < s.len() {
         if s[i] == 10 {
-            break;
+            return i;
         }
         i += 1;
     }
-    if i < s.len() { i } else { s.len() }
+    s.len()
 }
 
 // The first place at or after `at`, and at most `end`, that holds no space.
 fn skip_spaces(s: &[u8], at: usize, end: usize) -> usize
     requires { ⌜ end ≤ length (now s) ⌝ }
-    ensures { λ r. ⌜ r ≤ end ⌝ }
+    ensures place { λ r. ⌜ r ≡ wordFrom (now (s .entry)) at end ⌝ }
+    ensures within { λ r. ⌜ r ≤ end ⌝ }
 {
     let mut i = at;
     while i < end {
@@ -69,7 +74,8 @@ fn skip_spaces(s: &[u8], at: usize, end: usize) -> usize
 // The first place at or after `at`, and at most `end`, that holds a space.
 fn skip_word(s: &[u8], at: usize, end: usize) -> usize
     requires { ⌜ (at ≤ end) × (end ≤ length (now s)) ⌝ }
-    ensures { λ r. ⌜ (at ≤ r) × (r ≤ end) ⌝ }
+    ensures place { λ r. ⌜ r ≡ wordTo (now (s .entry)) at end ⌝ }
+    ensures within { λ r. ⌜ (at ≤ r) × (r ≤ end) ⌝ }
 {
     let mut i = at;
     while i < end {
@@ -82,14 +88,15 @@ fn skip_word(s: &[u8], at: usize, end: usize) -> usize
 }
 
 fn least(a: usize, b: usize) -> usize
-    ensures { λ r. ⌜ r ≤ b ⌝ }
+    ensures { λ r. ⌜ r ≡ min a b ⌝ }
 {
     if a < b { a } else { b }
 }
 
 // The next word of the line that ends at `end`; empty at the line's end.
 pub fn next_word(s: &[u8], at: usize, end: usize) -> Word
-    ensures { λ r. ⌜ Within (r .from) (r .to) (length (now (s .entry))) ⌝ }
+    ensures word { λ r. ⌜ r ≡ nextWordOf (now (s .entry)) at end ⌝ }
+    ensures within { λ r. ⌜ Within (r .from) (r .to) (length (now (s .entry))) ⌝ }
 {
     let last = least(end, s.len());
     let from = skip_spaces(s, at, last);
@@ -97,8 +104,10 @@ pub fn next_word(s: &[u8], at: usize, end: usize) -> Word
     Word { from, to }
 }
 
-// A number of at most 16 hexadecimal digits.
-pub fn hex_number(s: &[u8]) -> Number {
+// A number of at most 16 hexadecimal digits. The remainder keeps every digit of so short a number, and shows that one more has room.
+pub fn hex_number(s: &[u8]) -> Number
+    ensures { λ r. ⌜ r ≡ hexNumberOf (now (s .entry)) ⌝ }
+{
     if s.len() == 0 {
         return Number::Bad;
     }
@@ -118,10 +127,41 @@ pub fn hex_number(s: &[u8]) -> Number {
     Number::Is(n)
 }
 
+// Is each byte a hexadecimal digit?
+fn all_hex(s: &[u8]) -> bool
+    ensures { λ r. ⌜ r ≡ allHex (now (s .entry)) ⌝ }
+{
+    let mut i = 0;
+    while i < s.len() {
+        if 15 < digit(s[i]) {
+            return false;
+        }
+        i += 1;
+    }
+    true
+}
+
+// Writes the bytes of n pairs of digits at the start of a slice that has room for them. The remainders keep what a digit is worth, and show that a
+// pair has room in a byte.
+fn write_pairs(out: &mut [u8], s: &[u8], n: usize)
+    requires { ⌜ (allHex (now s) ≡ true) × (n + n ≡ length (now s)) × (n ≤ length (now out)) ⌝ }
+    ensures { λ _. ⌜ now (out .exit) ≡ paste (now (out .entry)) 0 (pairsOf (now (s .entry))) n ⌝ }
+{
+    let mut i = 0;
+    while i < n {
+        let hi = digit(s[2 * i]);
+        let lo = digit(s[2 * i + 1]);
+        out[i] = hi % 16 * 16 + lo % 16;
+        i += 1;
+    }
+}
+
 // The bytes that pairs of hexadecimal digits write, put at the start of `out`, and how many they are; not good where a digit is none, a pair
-// is not whole, or there is no room.
+// is not whole, or there is no room, and then nothing is written.
 pub fn hex_bytes(s: &[u8], out: &mut [u8]) -> Hex
-    ensures { λ r. ⌜ Counts (r .count) (now (out .exit)) ⌝ }
+    ensures answer { λ r. ⌜ r ≡ hexBytesOf (now (s .entry)) (length (now (out .entry))) ⌝ }
+    ensures holds { λ _. ⌜ now (out .exit) ≡ hexBytesOn (now (s .entry)) (now (out .entry)) ⌝ }
+    ensures counts { λ r. ⌜ Counts (r .count) (now (out .exit)) ⌝ }
 {
     let n = s.len() / 2;
     if s.len() % 2 == 1 {
@@ -136,34 +176,23 @@ pub fn hex_bytes(s: &[u8], out: &mut [u8]) -> Hex
             count: 0,
         };
     }
-    let mut i = 0;
-    while i < n {
-        let hi = digit(s[2 * i]);
-        let lo = digit(s[2 * i + 1]);
-        if 15 < hi {
-            return Hex {
-                good: false,
-                count: 0,
-            };
-        }
-        if 15 < lo {
-            return Hex {
-                good: false,
-                count: 0,
-            };
-        }
-        out[i] = hi * 16 + lo;
-        i += 1;
+    if all_hex(s) {
+        write_pairs(out, s, n);
+        return Hex {
+            good: true,
+            count: n,
+        };
     }
     Hex {
-        good: true,
-        count: n,
+        good: false,
+        count: 0,
     }
 }
 
 // The value of a decimal digit, 10 where it is none.
 fn decimal_digit(b: u8) -> u8
-    ensures { λ r. ⌜ r ≤ 10 ⌝ }
+    ensures value { λ r. ⌜ r ≡ decimalDigitOf b ⌝ }
+    ensures within { λ r. ⌜ r ≤ 10 ⌝ }
 {
     match b {
         48..=57 => b - 48,
@@ -171,8 +200,10 @@ fn decimal_digit(b: u8) -> u8
     }
 }
 
-// A number of at most 19 decimal digits. The remainder keeps every digit of so short a number, and shows that one more has room.
-pub fn decimal_number(s: &[u8]) -> Number {
+// A number of at most 19 decimal digits; the remainder is as in `hex_number`.
+pub fn decimal_number(s: &[u8]) -> Number
+    ensures { λ r. ⌜ r ≡ decimalNumberOf (now (s .entry)) ⌝ }
+{
     if s.len() == 0 {
         return Number::Bad;
     }
@@ -222,7 +253,8 @@ pub fn put(out: &mut [u8], at: usize, word: &[u8]) -> usize
 
 // Puts a number at a place, in the fewest decimal digits that hold it, as `put` does a word.
 pub fn put_decimal(out: &mut [u8], at: usize, n: u64) -> usize
-    ensures { λ r. ⌜ Spelt n at (now (out .entry)) (now (out .exit)) r ⌝ }
+    ensures at { λ r. ⌜ r ≡ putEnd (length (now (out .entry))) at (length (decimalOf n)) ⌝ }
+    ensures holds { λ _. ⌜ now (out .exit) ≡ putOf (now (out .entry)) at (decimalOf n) ⌝ }
 {
     let mut digits = [0u8; 20];
     let k = io::decimal(n, &mut digits);

@@ -4,7 +4,6 @@ mod All
 mod Turns
 mod Keeps
 mod Whole
-mod CapArms
 pub mod Always
 pub mod Strictly
 pub mod One

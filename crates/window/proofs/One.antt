@@ -7,8 +7,6 @@ use Rattle.window.proofs.Window.buffered.Reads as buffered
 use Rattle.window.proofs.Window.peaks.Reads as peaks
 use Rattle.window.proofs.Window.peak_records.Reads as peak-records
 use Rattle.window.proofs.Window.substream_peaks.Reads as substream-peaks
-use Rattle.window.proofs.caps.fba_cap.Reads as fba-cap
-use Rattle.window.proofs.caps.fbb_cap.Reads as fbb-cap
 
 pub fresh-one : (κs : _) (a : _) (r r′ : _) (e e′ : _) → fresh.Post κs a r e → fresh.Post κs a r′ e′ → r ≡ r′
 fresh-one κs a r r′ e e′ p q = p ∙ sym q
@@ -30,9 +28,3 @@ peak-records-one κs a r r′ e e′ p q = p ∙ sym q
 
 pub substream-peaks-one : (κs : _) (a : _) (r r′ : _) (e e′ : _) → substream-peaks.Post κs a r e → substream-peaks.Post κs a r′ e′ → r ≡ r′
 substream-peaks-one κs a r r′ e e′ p q = p ∙ sym q
-
-pub fba-cap-one : (κs : _) (a : _) (r r′ : _) (e e′ : _) → fba-cap.Post κs a r e → fba-cap.Post κs a r′ e′ → r ≡ r′
-fba-cap-one κs a r r′ e e′ p q = p ∙ sym q
-
-pub fbb-cap-one : (κs : _) (a : _) (r r′ : _) (e e′ : _) → fbb-cap.Post κs a r e → fbb-cap.Post κs a r′ e′ → r ≡ r′
-fbb-cap-one κs a r r′ e e′ p q = p ∙ sym q

@@ -4,5 +4,4 @@ pub mod Levels
 pub mod Numbers
 pub mod Rings
 pub mod Window
-pub mod Caps
 pub mod History

@@ -10,10 +10,7 @@ mod single; // one accumulator, one substream
 mod every; // all of them, and what one slot does to the levels
 mod numbers; // the conditions of numbers 1, 12 and 13
 mod slots; // the rings and the drain
-mod caps; // the byte caps
 
-pub use caps::fba_cap;
-pub use caps::fbb_cap;
 ghost use mathlib.Core.Path.{_≡_};
 ghost use mathlib.Core.Bool.{true};
 ghost use Rattle.window.specs.Numbers.{fitsOf, roomOf};
@@ -36,6 +33,7 @@ use slots::write_slot;
 
 // What one unit adds, in bytes. `total` is what an accumulator is capped on, `stream` the part of it that is substream payload, and
 // `substream` each substream's own payload.
+#[repr(C)]
 pub struct Contribution {
     pub total: [u32; 5],
     pub stream: [u32; 5],
@@ -43,6 +41,7 @@ pub struct Contribution {
 }
 
 // Deepest one accumulator has been, and what it held at that moment.
+#[repr(C)]
 pub struct Peak {
     pub total: u64,
     pub stream: u64,
@@ -50,6 +49,7 @@ pub struct Peak {
 }
 
 // One accumulator: the bytes it holds now, the stream part of them, and its peak.
+#[repr(C)]
 pub struct Depth {
     pub total: u64,
     pub stream: u64,
@@ -57,12 +57,14 @@ pub struct Depth {
 }
 
 // One substream: the bytes it holds now, and the most it has held.
+#[repr(C)]
 pub struct SubstreamDepth {
     pub bytes: u64,
     pub peak: u64,
 }
 
 // All of a window but its rings.
+#[repr(C)]
 pub struct Levels {
     pub read: usize,
     pub write: usize,
@@ -71,6 +73,7 @@ pub struct Levels {
 }
 
 // A ring for each accumulator, of its bytes or of their stream part.
+#[repr(C)]
 pub struct FiveRings {
     pub ring0: [u32; 128],
     pub ring1: [u32; 128],
@@ -80,6 +83,7 @@ pub struct FiveRings {
 }
 
 // A ring for each substream, of its bytes.
+#[repr(C)]
 pub struct FourRings {
     pub ring0: [u32; 128],
     pub ring1: [u32; 128],
@@ -88,6 +92,7 @@ pub struct FourRings {
 }
 
 // The units in flight: slot i of every ring belongs to the same unit.
+#[repr(C)]
 pub struct Rings {
     pub removal: [u64; 128],
     pub total: FiveRings,
@@ -95,6 +100,7 @@ pub struct Rings {
     pub substream: FourRings,
 }
 
+#[repr(C)]
 pub struct Window {
     pub rings: Rings,
     pub levels: Levels,
@@ -160,13 +166,6 @@ pub struct SubstreamPeaks {
 pub struct Drained {
     pub levels: Levels,
     pub underrun: Underrun,
-}
-
-// A byte cap. An accumulator that is never checked has none, which is not a cap of 0.
-pub enum Cap {
-    Bytes(u64),
-    Unchecked,
-    NoSuchAccumulator,
 }
 
 // A step that is accepted: write the slot, drain, add.

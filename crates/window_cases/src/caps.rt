@@ -3,9 +3,9 @@ use crate::text::column;
 use crate::text::line;
 use crate::text::number;
 use crate::text::word;
-use window::Cap;
-use window::fba_cap;
-use window::fbb_cap;
+use byte_caps::Cap;
+use byte_caps::fba_cap;
+use byte_caps::fbb_cap;
 
 fn cap(c: Cap) {
     match c {

@@ -53,7 +53,21 @@ fn shown(group: &str, before: &str, line: &str) -> String {
             let held = number(line, "held ");
             format!("{} {} {}", line.split(" report").next().unwrap_or(""), coarse(held), coarse(number(before, "held ")))
         }
-        _ => line.split(':').next().unwrap_or("").to_string() + if line.contains("rate") { &line[line.find("rate").unwrap()..line.find("reserved").unwrap()] } else { "" },
+        // the number of a refused timestamp, or the rate of a good one
+        _ => match line.find("rate") {
+            Some(at) => line[at..line.find("reserved").unwrap_or(line.len())].to_string(),
+            None => line.to_string(),
+        },
+    }
+}
+
+fn group_of(kind: &str) -> &'static str {
+    match kind {
+        "check" | "caps" => "plain",
+        _ if kind.starts_with("timestamp,") => "plain",
+        _ if kind.starts_with("timing") => "timing",
+        _ if kind.starts_with("window") => "window",
+        _ => "reader",
     }
 }
 
@@ -65,18 +79,20 @@ fn main() {
     let mut seen = HashSet::new();
     let (mut script, mut answers) = (String::new(), String::new());
     let mut calls = 0;
-    let mut spent: HashMap<&str, usize> = HashMap::new();
+    let mut kinds: HashMap<&str, usize> = HashMap::new();
+    for (kind, _) in plan_of(600) {
+        *kinds.entry(group_of(kind)).or_insert(0) += 1;
+    }
     for (kind, many) in plan_of(600) {
-        let group = if kind.starts_with("timing") {
-            "timing"
-        } else if kind.starts_with("window") {
-            "window"
-        } else if kind.starts_with("timestamp,") || kind == "check" || kind == "caps" {
-            "plain"
-        } else {
-            "reader"
-        };
-        let mut kept = 0;
+        let group = group_of(kind);
+        // Every kind has its share of the group's size: a part that is chosen early must not leave a later one without a case.
+        let share = match group {
+            "reader" => 800_000,
+            "timing" => 400_000,
+            "window" => 180_000,
+            _ => 60_000,
+        } / kinds[group];
+        let (mut kept, mut used) = (0, 0);
         for i in 0..many {
             let Some(case) = make(&world, seed, kind, i, &mut Listed::default()) else { break };
             let most = if group == "window" { 12_000 } else { 7_000 };
@@ -86,26 +102,15 @@ fn main() {
             let mut fresh = false;
             let mut before = "";
             for line in case.answers.lines() {
-                if group == "plain" && (kind == "check" || kind == "caps") {
-                    fresh |= kept < 40;
-                } else {
-                    fresh |= seen.insert(format!("{group} {}", shown(group, before, line)));
-                }
+                fresh |= seen.insert(format!("{group} {}", shown(group, before, line)));
                 before = line;
             }
-            // a few of every kind in any case
-            if !fresh && kept >= 2 {
+            // a few of every kind in any case, and more of those that are one line
+            if !fresh && kept >= if group == "plain" { 60 } else { 6 } {
                 continue;
             }
             kept += 1;
-            let budget = match group {
-                "reader" => 480_000,
-                "timing" => 140_000,
-                "window" => 180_000,
-                _ => 60_000,
-            };
-            let used = spent.entry(group).or_insert(0);
-            if *used > budget {
+            if used > share {
                 break;
             }
             let title = format!("# {kind}, case {i}\n");
@@ -116,7 +121,7 @@ fn main() {
             }
             calls += case.calls.len();
             answers.push_str(&case.answers);
-            *spent.get_mut(group).unwrap() += case.answers.len() + case.answers.len() / 3;
+            used += case.answers.len() + case.answers.len() / 3;
         }
     }
     std::fs::write(format!("{folder}/stdin"), &script).expect("stdin");

@@ -1,5 +1,6 @@
--- `mv_next` is the library's `next` on the record that the flat one says, laid flat.
+-- `mv_next` is the library's `next` on the record that the words say.
 use borrow.Author.Needs.{needs}
+use Rattle.exports.proofs.Ways.{next-number, next-record, next-unit}
 use Rattle.exports.proofs.mv_next.Statement.{statement}
 use Rattle.exports.proofs.mv_next.Tie as tie
 
@@ -10,4 +11,6 @@ mv-next-spec =
     (λ c κs. search needs)
     (λ c κs. search needs)
     (λ c κs. search needs)
-    (λ c. cc))
+    (λ c κs. search needs)
+    (λ c κs. search needs)
+    (λ c. (search (needs, next-number), (search (needs, next-record), search (needs, next-unit)))))

@@ -1,5 +1,6 @@
--- `mv_open` is the library's `open`, laid flat.
+-- `mv_open` is the library's `open`, laid on the words.
 use borrow.Author.Needs.{needs}
+use Rattle.exports.proofs.Ways.{open-number, open-record}
 use Rattle.exports.proofs.mv_open.Statement.{statement}
 use Rattle.exports.proofs.mv_open.Tie as tie
 
@@ -10,4 +11,5 @@ mv-open-spec =
     (λ c κs. search needs)
     (λ c κs. search needs)
     (λ c κs. search needs)
-    (λ c. cc))
+    (λ c κs. search needs)
+    (λ c. (search (needs, open-number), search (needs, open-record))))

@@ -1,5 +1,6 @@
--- `mv_push_bytes` is the library's `push_bytes` on the record that the flat one says, laid flat.
+-- `mv_push_bytes` is the library's `push_bytes` on the record that the words say.
 use borrow.Author.Needs.{needs}
+use Rattle.exports.proofs.Ways.{push-number, push-record, push-holds}
 use Rattle.exports.proofs.mv_push_bytes.Statement.{statement}
 use Rattle.exports.proofs.mv_push_bytes.Tie as tie
 
@@ -10,7 +11,5 @@ mv-push-bytes-spec =
     (λ c κs. search needs)
     (λ c κs. search needs)
     (λ c κs. search needs)
-    (λ c κs. search needs)
-    (λ c κs. search needs)
     (λ c. search needs)
-    (λ c. (cc, cc)))
+    (λ c. (search (needs, push-number), (search (needs, push-record), search (needs, push-holds)))))

@@ -1,4 +1,4 @@
--- `waiting` goes by the byte that says whether there is a timestamp.
+-- `waiting`, by the first word.
 use borrow.Author.Needs.{needs}
 use Rattle.exports.proofs.Ways.{waits, waits-not}
 use Rattle.exports.proofs.waiting.Statement.{statement}
@@ -8,8 +8,7 @@ pub waiting-spec : {M : Type 1} → statement M
 waiting-spec =
     tie.close
     (tie.spec
-    (λ c κs. search needs)
-    (λ c κs. search needs)
+    (λ c. search needs)
     (λ c κs. search needs)
     (λ c κs. search needs)
     (λ c. search (needs, waits))

@@ -1,43 +1,19 @@
--- `text::hex_bytes` is safe: each pair lies within the text, and each byte within the room.
+-- `text::hex_bytes` writes where its three tests find whole pairs, room and nothing but digits, and nothing else.
 use borrow.Author.Needs.{needs}
 use native.Mathlib.Omega.{arith}
-use Prim.Native.Nat.{_-_, _≤_}
-use mathlib.Core.Path.{_≡_}
-use lib.ListN.{length, length-take}
+use lib.ListN.{length-take}
+use Rattle.text.proofs.Pairs.{odd, no-room, not-all, is-good, answers-bad, answers-good, writes-none, writes-all}
 use Rattle.text.proofs.hex_bytes.Statement.{statement}
 use Rattle.text.proofs.hex_bytes.Tie as tie
-
-abbrev Inv-loop : tie.InvT-loop
-Inv-loop s out₀ n i₀ out i = (i ≤ n) × (length out ≡ length out₀)
-
-abbrev μ-loop : tie.MeasureT-loop
-μ-loop s out₀ n i₀ out i = n - i
 
 pub hex-bytes-spec : {M : Type 1} → statement M
 hex-bytes-spec =
     tie.close
     (tie.spec
-    Inv-loop
-    μ-loop
-    (λ c. search needs)
-    (λ c. search needs)
-    (λ c. search needs)
-    (λ c. search needs)
-    (λ c. search needs)
+    (λ c. (search (needs, answers-bad, odd), (search (needs, writes-none, odd), search needs)))
+    (λ c. (search (needs, answers-bad, no-room), (search (needs, writes-none, no-room), search needs)))
     (λ c κs. search needs)
+    (λ c κs. (cc, omega arith, search needs))
     (λ c. search needs)
-    (λ c. search needs)
-    (λ c. search needs)
-    (λ c κs. search needs)
-    (λ c. search needs)
-    (λ c. search needs)
-    (λ c. search needs)
-    (λ c. search needs)
-    (λ c. search needs)
-    (λ c. search needs)
-    (λ c. search needs)
-    (λ c. search needs)
-    (λ c. search needs)
-    (λ c. search needs)
-    (λ c. search needs)
-    (λ c. (search needs, simp length-take (omega arith))))
+    (λ c. (search (needs, answers-good, is-good), (search (needs, writes-all, is-good), (search needs, simp length-take (omega arith)))))
+    (λ c. (search (needs, answers-bad, not-all), (search (needs, writes-none, not-all), search needs))))

@@ -1,0 +1,2 @@
+mod CapArms
+pub mod One

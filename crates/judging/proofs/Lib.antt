@@ -1,0 +1,3 @@
+pub mod One
+mod SearchWays
+mod UnitWays

@@ -1,0 +1,3 @@
+pub mod Flat
+pub mod Calls
+pub mod FlatLaws
