@@ -1,5 +1,5 @@
 //! Mirvashen's reader of TrueHD/MLP streams behind the names of truehdd's `Extractor`: `push_bytes`, `next`, `timestamp`, `error_count`,
-//! `stream_position`. The work is done by the proved static library; what stands here keeps the record and the buffer, and is not proved.
+//! `stream_position`; start timing and the depth window are in [`timing`] and [`window`]. The work is done by the proved static libraries; what stands here keeps the record and the buffer, and is not proved.
 //!
 //! ```
 //! use mirvashen::Extractor;
