@@ -1,7 +1,7 @@
 -- P1 to P9 with what document 01 says of each: definitions only. An outcome is written as the number of the answer and its values.
-use Prim.Native.Nat.{ℕ, zero, suc, _+_, _-_}
+use Prim.Native.Nat.{ℕ}
 use mathlib.Core.Bool.{Bool, true, false, _&&_}
-use mathlib.Core.List.{List, [], _∷_, _++_}
+use mathlib.Core.List.{List, [], _∷_}
 use lib.Dec.{eqb}
 use lib.ListN.{getD, replicate}
 use Rattle.laws.specs.Pick.{pick}
@@ -20,10 +20,11 @@ use Rattle.timing.specs.declared.Answer.the-variants.{Nothing, Start, Record}
 use Rattle.timing.specs.Timing.{freshOf}
 use Rattle.timing.specs.Units.{answersOf, unitsFrom}
 use Rattle.kinds.specs.declared.SampleTime.{SampleTime}
-use Rattle.window.specs.declared.Contribution.{Contribution}
+use Rattle.levels.specs.declared.Contribution.{Contribution}
 use Rattle.window.specs.declared.Window.{Window}
 use Rattle.window.specs.Window as Window
-use Rattle.window.specs.Window.{pushedOf, bufferedOf}
+use Rattle.window.specs.Window.{pushedOf}
+use Rattle.levels.specs.Questions.{bufferedOf}
 
 -- what a case is about
 pub data Case : Type 0 where
@@ -87,7 +88,7 @@ twoSteps head = pushedOf (pushedOf Window.freshOf (at 0) (at 5) (bytesOf 10) .wi
 
 -- units held, and the first depth
 abbrev heldBy : Window → List ℕ
-heldBy w = bufferedOf w .units ∷ getD (w .levels .depth) 0 (record { total = 0; stream = 0; peak = record { total = 0; stream = 0; overhead = 0 } }) .total ∷ []
+heldBy w = bufferedOf (w .levels) .units ∷ getD (w .levels .depth) 0 (record { total = 0; stream = 0; peak = record { total = 0; stream = 0; overhead = 0 } }) .total ∷ []
 
 unfoldable pub outcomeOf : Case → List ℕ
 outcomeOf (underLock bytes) = spokenBy (request reader lockedOne bytes)

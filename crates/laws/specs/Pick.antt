@@ -21,3 +21,27 @@ pick-same false a = refl
 pub pick-holds : {A : Type 0} (P : A → Type 0) (t : Bool) (a b : A) → (t ≡ true → P a) → (t ≡ false → P b) → P (pick t a b)
 pick-holds P true a b f g = f refl
 pick-holds P false a b f g = g refl
+
+-- what a call's answer tells of the definition it equals
+pub told : {x b : Bool} → x ≡ b → x ≡ true → b ≡ true
+told e t = sym e ∙ t
+
+-- both tests hold where the second is asked only after the first
+pub both : (b x : Bool) → pick b x false ≡ true → (b ≡ true) × (x ≡ true)
+both true x e = (refl, e)
+both false x e = (cc, cc)
+
+pub both-hold : {b x : Bool} → b ≡ true → x ≡ true → pick b x false ≡ true
+both-hold {b} {x} p q = rw (p, q)
+
+-- a test that must fail first
+pub passed : (b x : Bool) → pick b false x ≡ true → (b ≡ false) × (x ≡ true)
+passed true x e = (cc, cc)
+passed false x e = (refl, e)
+
+-- the second of two tests is the answer where the first holds
+pub and-on : {x b y : Bool} (z : Bool) → x ≡ b → x ≡ true → y ≡ z → y ≡ pick b z false
+and-on z p t e = rw (← p, t) e
+
+pub and-off : {x b : Bool} (z : Bool) → x ≡ b → x ≡ false → false ≡ pick b z false
+and-off z p t = rw (← p, t)

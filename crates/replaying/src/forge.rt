@@ -4,12 +4,12 @@ use crate::words::low8;
 use crate::words::low32;
 use extract::Extractor;
 use kinds::BytePosition;
+use levels::Depth;
+use levels::Levels;
+use levels::SubstreamDepth;
 use rules::Losses;
 use rules::Stream;
 use timing::HiresOutputTimingState;
-use window::Depth;
-use window::Levels;
-use window::SubstreamDepth;
 use window::Window;
 
 pub(crate) struct ForgedReader {

@@ -8,6 +8,9 @@ use crate::sums::adler;
 use extract::Answer;
 use extract::Extractor;
 use extract::PushAnswer;
+use levels::Depth;
+use levels::Levels;
+use levels::SubstreamDepth;
 use rules::Stream;
 use rules::Unit;
 use rules::Waiting;
@@ -16,9 +19,6 @@ use timestamp::Timestamp;
 use timing::Field;
 use timing::HiresOutputTimingState;
 use timing::HiresTimingFault;
-use window::Depth;
-use window::Levels;
-use window::SubstreamDepth;
 use window::Underrun;
 
 fn put_rate(out: &mut [u8], at: usize, r: Framerate) -> usize {
@@ -208,12 +208,12 @@ pub(crate) fn put_timing(out: &mut [u8], at: usize, t: HiresOutputTimingState) -
     put_fault(out, c, fault)
 }
 
-pub(crate) fn put_window_answer(out: &mut [u8], at: usize, a: window::Answer) -> usize {
+pub(crate) fn put_window_answer(out: &mut [u8], at: usize, a: levels::Answer) -> usize {
     match a {
-        window::Answer::Accepted => put(out, at, b"window 0"),
-        window::Answer::RecordDoesNotFit => put(out, at, b"window 1"),
-        window::Answer::ContributionTooLarge => put(out, at, b"window 12"),
-        window::Answer::DepthTooLarge => put(out, at, b"window 13"),
+        levels::Answer::Accepted => put(out, at, b"window 0"),
+        levels::Answer::RecordDoesNotFit => put(out, at, b"window 1"),
+        levels::Answer::ContributionTooLarge => put(out, at, b"window 12"),
+        levels::Answer::DepthTooLarge => put(out, at, b"window 13"),
     }
 }
 

@@ -14,10 +14,10 @@ use crate::words::low32;
 use crate::words::numbers_from;
 use byte_caps::Cap;
 use kinds::SampleTime;
+use levels::Contribution;
 use timing::HiresOutputTimingState;
 use timing::TimingContext;
 use timing::Updated;
-use window::Contribution;
 use window::Window;
 
 pub(crate) struct Timed {
@@ -141,10 +141,10 @@ fn timing_forge(
 
 // The window's record ends the line, with the units held.
 fn windowed_line(w: Window, out: &mut [u8], at: usize) -> Windowed {
-    let held = w.buffered();
-    let l = w.levels;
+    let levels = w.levels;
+    let held = levels.buffered();
     let a = put_number(out, at, b" held ", held.units as u64);
-    let b = put_levels(out, a, l);
+    let b = put_levels(out, a, levels);
     let c = put(out, b, b"\n");
     Windowed {
         window: w,

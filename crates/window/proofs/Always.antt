@@ -7,28 +7,27 @@ use mathlib.Core.Bool.{Bool, true, false}
 use mathlib.Core.List.{List, [], _∷_}
 use lib.Dec.{leb, ltb}
 use lib.ListN.{getD}
-use borrow.Author.Tests.{le-leb, le-ltb, leb-true}
-use Rattle.laws.specs.Pick.{pick}
+use borrow.Author.Tests.{le-leb, leb-true}
+use Rattle.laws.specs.Pick.{pick, both-hold}
 use Rattle.kinds.specs.declared.SampleTime.{SampleTime}
-use Rattle.window.specs.Index.{every}
+use Rattle.levels.specs.Index.{every}
 use Rattle.window.specs.Depth.{sampledOf, leftOf, addedOf, sampledSubstreamOf, addedSubstreamOf, emptiedOf, emptiedSubstreamOf}
-use Rattle.window.specs.Levels.{noDepth, noSubstream, depthAt, substreamAt, eachDepth, eachSubstream, drainedOf, addedLevelsOf, freshLevelsOf, emptiedDepthsOf, emptiedSubstreamsOf, restartedLevelsOf, heldOf}
-use Rattle.window.specs.Numbers.{roomAt, depthRoom, roomOf, depthFits, depthsFit, substreamsFit, fitsOf, smallOf}
-use Rattle.window.specs.Window.{numberOf, answerOf, stepRings, steppedOf, refusedOf, pushedOf, restartedWindowOf, restartedOf, freshOf, bufferedOf, drainOf}
+use Rattle.levels.specs.Levels.{noDepth, noSubstream, depthAt, substreamAt}
+use Rattle.window.specs.Levels.{eachDepth, eachSubstream, drainedOf, addedLevelsOf, freshLevelsOf, emptiedDepthsOf, emptiedSubstreamsOf, restartedLevelsOf}
+use Rattle.levels.specs.Numbers.{roomAt, depthRoom, roomOf, depthFits, depthsFit, substreamsFit, fitsOf, smallOf, numberOf}
+use Rattle.window.specs.Window.{answerOf, stepRings, steppedOf, refusedOf, pushedOf, restartedWindowOf, restartedOf, freshOf, drainOf}
 use Rattle.window.specs.History.{Call, step, restart, called, after}
-use Rattle.window.specs.declared.Contribution.{Contribution}
-use Rattle.window.specs.declared.Peak.{Peak}
-use Rattle.window.specs.declared.Depth.{Depth}
-use Rattle.window.specs.declared.SubstreamDepth.{SubstreamDepth}
-use Rattle.window.specs.declared.Levels.{Levels}
+use Rattle.levels.specs.declared.Contribution.{Contribution}
+use Rattle.levels.specs.declared.Peak.{Peak}
+use Rattle.levels.specs.declared.Depth.{Depth}
+use Rattle.levels.specs.declared.SubstreamDepth.{SubstreamDepth}
+use Rattle.levels.specs.declared.Levels.{Levels}
 use Rattle.window.specs.declared.Window.{Window}
-use Rattle.window.specs.declared.Answer.{Answer}
-use Rattle.window.specs.declared.Answer.the-variants.{Accepted, RecordDoesNotFit, ContributionTooLarge, DepthTooLarge}
-use Rattle.window.proofs.Index.{both-hold, every-holds, at-five, at-four}
-use Rattle.window.proofs.Accumulator.{room-says, depth-room-says}
-use Rattle.window.proofs.All.{depth-has-room, substream-has-room, room-of-depths, room-of-substreams}
+use Rattle.levels.specs.declared.Answer.{Answer}
+use Rattle.levels.specs.declared.Answer.the-variants.{Accepted, RecordDoesNotFit, ContributionTooLarge, DepthTooLarge}
+use Rattle.levels.specs.IndexLaws.{every-holds, at-five, at-four}
+use Rattle.levels.specs.NumberLaws.{fits-holds, room-says, depth-room-says, depth-has-room, substream-has-room, room-of-depths, room-of-substreams, read-of-fit}
 use Rattle.window.proofs.Keeps.{each-depth-at, each-substream-at, drain-keeps, drain-room}
-use Rattle.window.proofs.Whole.{read-of-fit}
 
 -- A call hands back the window as it was, or the one that the rule gives where every test passed.
 module _ (P : Window → Type 0) (w : Window) where
@@ -66,11 +65,6 @@ module _ (P : Window → Type 0)
   pub always : (w : Window) (calls : List Call) → P w → P (after w calls)
   always w [] p = p
   always w (x ∷ xs) p = always (called w x) xs (call-keeps w x p)
-
--- Number 1 is never met from a window that fits.
-fits-holds : (l : Levels) → l .read ≤ 127 → l .write ≤ 127 → depthsFit (l .depth) ≡ true → substreamsFit (l .substream) ≡ true → fitsOf l ≡ true
-unfolding fitsOf
-fits-holds l r w d s = rw (le-ltb 127 (l .read) r, le-ltb 127 (l .write) w, d, s)
 
 added-fits : (d : Depth) (t s : ℕ) → depthRoom d t s ≡ true → depthFits (addedOf d t s) ≡ true
 unfolding depthFits addedOf sampledOf
@@ -226,19 +220,6 @@ fresh-moments k h = rw (at-five (λ j. noDepth) noDepth k h)
 pub peaks-of-a-moment : (calls : List Call) → Moments (after freshOf calls .levels)
 peaks-of-a-moment calls =
     always (λ w. Moments (w .levels)) (λ w playhead removal c m f r. stepped-moments w playhead removal c m) restarted-moments freshOf calls fresh-moments
-
--- "Units held: write minus read, modulo 128"
-pub held-below : (read write : ℕ) → heldOf read write < 128
-unfolding heldOf
-held-below read write = mod-lt (write + 128 - read) (omega arith)
-
-buffered-by : (w : Window) (x : Bool) → fitsOf (w .levels) ≡ x → bufferedOf w .units < 128
-unfolding bufferedOf
-buffered-by w true e = rw e (held-below (w .levels .read) (w .levels .write))
-buffered-by w false e = rw e (omega arith)
-
-pub buffered-below : (w : Window) → bufferedOf w .units < 128
-buffered-below w = buffered-by w (fitsOf (w .levels)) refl
 
 -- "unchanged": whatever is refused leaves the window as it was
 unchanged-by : (w : Window) (playhead removal : SampleTime) (c : Contribution) (a : Answer) → answerOf w c ≡ a → (numberOf a ≡ 0 → ⊥)

@@ -1,73 +1,14 @@
--- What a test at every index says, how a loop from the top comes to it, and what stands at an index of five and of four.
-use Prim.Native.Nat.{ℕ, zero, suc, _-_, _≤_, _<_}
+-- How a loop from the top comes to the highest index at which a test holds.
+use Prim.Native.Nat.{ℕ, _-_, _≤_, _<_}
 use native.Mathlib.Omega.{arith}
-use native.Mathlib.Nat.{not-suc-le-zero}
-use mathlib.Core.Path.{_≡_, refl, sym, ap, _∙_}
+use mathlib.Core.Path.{_≡_, sym, ap, _∙_}
 use mathlib.Core.Bool.{Bool, true, false}
-use lib.ListN.{getD}
-use lib.Dec.{eqb}
-use borrow.Author.Tests.{eqb-true, eqb-false}
-use Rattle.laws.specs.Pick.{pick}
-use Rattle.window.specs.Index.{five, four, every, highest}
+use Rattle.levels.specs.IndexLaws.{less-one}
+use Rattle.window.specs.Index.{highest}
 use Rattle.window.specs.declared.Underrun.{Underrun}
 use Rattle.window.specs.declared.Underrun.the-variants.{Nothing, At}
 
--- what a call's answer tells of the definition it equals
-pub told : {x b : Bool} → x ≡ b → x ≡ true → b ≡ true
-told e t = sym e ∙ t
-
--- both tests hold where the second is asked only after the first
-pub both : (b x : Bool) → pick b x false ≡ true → (b ≡ true) × (x ≡ true)
-both true x e = (refl, e)
-both false x e = (cc, cc)
-
-pub both-hold : {b x : Bool} → b ≡ true → x ≡ true → pick b x false ≡ true
-both-hold {b} {x} p q = rw (p, q)
-
--- a test that must fail first
-pub passed : (b x : Bool) → pick b false x ≡ true → (b ≡ false) × (x ≡ true)
-passed true x e = (cc, cc)
-passed false x e = (refl, e)
-
-below-top : (n k : ℕ) → k < suc n → (k ≡ n → ⊥) → k < n
-below-top n k h ne = omega arith
-
--- what a test at every index says of one
-every-by : (n : ℕ) (p : ℕ → Bool) (k : ℕ) → k < suc n → (p n ≡ true) → ((k < n) → p k ≡ true) → (b : Bool) → eqb k n ≡ b → p k ≡ true
-every-by n p k h top rest true e = ap p (eqb-true k n e) ∙ top
-every-by n p k h top rest false e = rest (below-top n k h (eqb-false k n e))
-
-pub every-says : (n : ℕ) (p : ℕ → Bool) → every n p ≡ true → (k : ℕ) → k < n → p k ≡ true
-unfolding every
-every-says zero p e k h = absurd (not-suc-le-zero h)
-every-says (suc n) p e k h =
-    let w = both (p n) (every n p) e in
-    every-by n p k h (w .0) (λ g. every-says n p (w .1) k g) (eqb k n) refl
-
-pub every-holds : (n : ℕ) (p : ℕ → Bool) → ((k : ℕ) → k < n → p k ≡ true) → every n p ≡ true
-unfolding every
-every-holds zero p h = refl
-every-holds (suc n) p h = both-hold (h n (omega arith)) (every-holds n p (λ k g. h k (omega arith)))
-
-pub less-one : (n : ℕ) → 0 < n → n ≡ suc (n - 1)
-less-one n h = omega arith
-
--- a loop from the top: the whole is what is left to test
-module _ {whole : Bool} (n : ℕ) (p : ℕ → Bool) (same : whole ≡ every n p) where
-  pub every-end : n ≤ 0 → true ≡ whole
-  unfolding every
-  every-end h = let k : n ≡ 0 = omega arith in sym (same ∙ rw k)
-
-  module _ (more : 0 < n) {x : Bool} (e : x ≡ p (n - 1)) where
-    pub every-stop : x ≡ false → false ≡ whole
-    unfolding every
-    every-stop h = sym (same ∙ ap (λ (k : ℕ). every k p) (less-one n more) ∙ rw (← e, h))
-
-    pub every-on : x ≡ true → whole ≡ every (n - 1) p
-    unfolding every
-    every-on h = same ∙ ap (λ (k : ℕ). every k p) (less-one n more) ∙ rw (← e, h)
-
--- the same loop, for the highest index
+-- a loop from the top: the whole is what is left to look at
 module _ {whole : Underrun} (n : ℕ) (p : ℕ → Bool) (same : whole ≡ highest n p) where
   pub highest-end : n ≤ 0 → Nothing ≡ whole
   unfolding highest
@@ -81,19 +22,3 @@ module _ {whole : Underrun} (n : ℕ) (p : ℕ → Bool) (same : whole ≡ highe
     pub highest-on : x ≡ false → whole ≡ highest (n - 1) p
     unfolding highest
     highest-on h = same ∙ ap (λ (k : ℕ). highest k p) (less-one n more) ∙ rw (← e, h)
-
--- what stands at an index of five and of four
-pub at-five : {A : Type 0} (f : ℕ → A) (d : A) (k : ℕ) → k < 5 → getD (five f) k d ≡ f k
-at-five f d zero h = refl
-at-five f d (suc zero) h = refl
-at-five f d (suc (suc zero)) h = refl
-at-five f d (suc (suc (suc zero))) h = refl
-at-five f d (suc (suc (suc (suc zero)))) h = refl
-at-five f d (suc (suc (suc (suc (suc k))))) h = absurd (omega arith)
-
-pub at-four : {A : Type 0} (f : ℕ → A) (d : A) (k : ℕ) → k < 4 → getD (four f) k d ≡ f k
-at-four f d zero h = refl
-at-four f d (suc zero) h = refl
-at-four f d (suc (suc zero)) h = refl
-at-four f d (suc (suc (suc zero))) h = refl
-at-four f d (suc (suc (suc (suc k)))) h = absurd (omega arith)

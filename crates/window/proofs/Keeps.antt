@@ -7,24 +7,25 @@ use mathlib.Core.List.{List}
 use lib.Dec.{ltb}
 use lib.ListN.{getD}
 use borrow.Author.Tests.{le-leb, leb-true}
-use Rattle.laws.specs.Pick.{pick}
+use Rattle.laws.specs.Pick.{pick, both, both-hold}
 use Rattle.kinds.specs.declared.SampleTime.{SampleTime}
 use Rattle.window.specs.Depth.{sampledOf, leftOf, sampledSubstreamOf, leftSubstreamOf}
-use Rattle.window.specs.Levels.{noDepth, noSubstream, depthAt, substreamAt, eachDepth, eachSubstream, drainedOf, underrunOf}
-use Rattle.window.specs.Numbers.{roomAt, depthRoom, depthsRoom, substreamsRoom, roomOf}
+use Rattle.levels.specs.Levels.{noDepth, noSubstream, depthAt, substreamAt}
+use Rattle.window.specs.Levels.{eachDepth, eachSubstream, drainedOf, underrunOf}
+use Rattle.levels.specs.Numbers.{roomAt, depthRoom, depthsRoom, substreamsRoom, roomOf}
 use Rattle.window.specs.Rings.{contributionAt}
 use Rattle.window.specs.Window.{afterSlot, passedAt, drainOf}
-use Rattle.window.specs.declared.Contribution.{Contribution}
-use Rattle.window.specs.declared.Peak.{Peak}
-use Rattle.window.specs.declared.Depth.{Depth}
-use Rattle.window.specs.declared.SubstreamDepth.{SubstreamDepth}
-use Rattle.window.specs.declared.Levels.{Levels}
+use Rattle.levels.specs.declared.Contribution.{Contribution}
+use Rattle.levels.specs.declared.Peak.{Peak}
+use Rattle.levels.specs.declared.Depth.{Depth}
+use Rattle.levels.specs.declared.SubstreamDepth.{SubstreamDepth}
+use Rattle.levels.specs.declared.Levels.{Levels}
 use Rattle.window.specs.declared.Rings.{Rings}
 use Rattle.window.specs.declared.Drained.{Drained}
 use Rattle.window.specs.declared.Underrun.{Underrun}
 use Rattle.window.specs.declared.Underrun.the-variants.{Nothing, At}
-use Rattle.window.proofs.Index.{both, both-hold, every-holds, at-five, at-four}
-use Rattle.window.proofs.All.{depth-has-room, substream-has-room, room-of-depths, room-of-substreams}
+use Rattle.levels.specs.IndexLaws.{every-holds, at-five, at-four}
+use Rattle.levels.specs.NumberLaws.{depth-has-room, substream-has-room, room-of-depths, room-of-substreams}
 
 -- what stands at an index after a rule was applied at each
 pub each-depth-at : (rule : Depth → ℕ → ℕ → Depth) (depth : List Depth) (c : Contribution) (k : ℕ) → k < 5

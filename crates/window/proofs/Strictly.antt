@@ -7,12 +7,12 @@ use borrow.Author.Tests.{le-ltb}
 use Rattle.kinds.specs.declared.SampleTime.{SampleTime}
 use Rattle.window.specs.Levels.{addedLevelsOf}
 use Rattle.window.specs.Window.{answerOf, stepRings, drainOf, steppedOf, pushedOf}
-use Rattle.window.specs.declared.Contribution.{Contribution}
-use Rattle.window.specs.declared.Levels.{Levels}
+use Rattle.levels.specs.declared.Contribution.{Contribution}
+use Rattle.levels.specs.declared.Levels.{Levels}
 use Rattle.window.specs.declared.Rings.{Rings}
 use Rattle.window.specs.declared.Window.{Window}
 use Rattle.window.specs.declared.Underrun.the-variants.{Nothing}
-use Rattle.window.specs.declared.Answer.the-variants.{Accepted}
+use Rattle.levels.specs.declared.Answer.the-variants.{Accepted}
 
 -- at or below the removal time at the read slot
 pub not-passed : (n : ℕ) (rings : Rings) (playhead : SampleTime) (l : Levels) → playhead .0 ≤ getD (rings .removal) (l .read) 0

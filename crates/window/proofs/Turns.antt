@@ -8,13 +8,13 @@ use Rattle.kinds.specs.declared.SampleTime.{SampleTime}
 use Rattle.window.specs.Levels.{drainedOf, underrunOf}
 use Rattle.window.specs.Rings.{contributionAt}
 use Rattle.window.specs.Window.{passedAt, drainOf}
-use Rattle.window.specs.declared.Contribution.{Contribution}
-use Rattle.window.specs.declared.Levels.{Levels}
+use Rattle.levels.specs.declared.Contribution.{Contribution}
+use Rattle.levels.specs.declared.Levels.{Levels}
 use Rattle.window.specs.declared.Rings.{Rings}
 use Rattle.window.specs.declared.Drained.{Drained}
 use Rattle.window.specs.declared.Underrun.{Underrun}
 use Rattle.window.specs.declared.Underrun.the-variants.{Nothing, At}
-use Rattle.window.proofs.Index.{less-one}
+use Rattle.levels.specs.IndexLaws.{less-one}
 
 pub slot-read : (l : Levels) (c : Contribution) {m : Levels} → m ≡ drainedOf l c → m .read < 128
 unfolding drainedOf

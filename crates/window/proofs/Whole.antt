@@ -1,35 +1,29 @@
 -- The whole window: what each way out of a call comes to.
-use Prim.Native.Nat.{ℕ, _≤_, _<_}
-use native.Mathlib.Omega.{arith}
-use mathlib.Core.Path.{_≡_, sym, _∙_}
+use Prim.Native.Nat.{ℕ, _<_}
+use mathlib.Core.Path.{_≡_}
 use mathlib.Core.Bool.{Bool, true, false}
 use mathlib.Core.List.{List, [], _∷_}
 use lib.ListN.{set, replicate}
-use borrow.Author.Tests.{ltb-false}
 use Rattle.kinds.specs.declared.SampleTime.{SampleTime}
 use Rattle.window.specs.Depth.{emptiedOf, emptiedSubstreamOf}
-use Rattle.window.specs.Levels.{noPeak, depthAt, substreamAt, emptiedDepthsOf, emptiedSubstreamsOf, freshLevelsOf, restartedLevelsOf, peaksAt, peakTotalsOf, substreamPeaksAt, heldOf, addedLevelsOf, totalsOf}
-use Rattle.window.specs.Numbers.{fitsOf, smallOf, roomOf}
+use Rattle.levels.specs.Levels.{depthAt, substreamAt}
+use Rattle.window.specs.Levels.{emptiedDepthsOf, emptiedSubstreamsOf, freshLevelsOf, restartedLevelsOf, addedLevelsOf, totalsOf}
+use Rattle.levels.specs.Numbers.{fitsOf, smallOf, roomOf}
 use Rattle.window.specs.Rings.{freshFive, freshFour, freshRingsOf, writtenFive, writtenFour, writtenOf}
-use Rattle.window.specs.Window.{answerOf, drainOf, steppedOf, refusedOf, pushedOf, freshOf, restartedOf, bufferedOf, peaksOf, peakRecordsOf, substreamPeaksOf}
-use Rattle.window.specs.declared.Contribution.{Contribution}
+use Rattle.window.specs.Window.{answerOf, drainOf, steppedOf, refusedOf, pushedOf, freshOf, restartedOf}
+use Rattle.levels.specs.declared.Contribution.{Contribution}
 use Rattle.window.specs.declared.Drained.{Drained}
 use Rattle.window.specs.declared.Pushed.{Pushed}
-use Rattle.window.specs.declared.Peak.{Peak}
-use Rattle.window.specs.declared.Depth.{Depth}
-use Rattle.window.specs.declared.SubstreamDepth.{SubstreamDepth}
-use Rattle.window.specs.declared.Levels.{Levels}
+use Rattle.levels.specs.declared.Depth.{Depth}
+use Rattle.levels.specs.declared.SubstreamDepth.{SubstreamDepth}
+use Rattle.levels.specs.declared.Levels.{Levels}
 use Rattle.window.specs.declared.FiveRings.{FiveRings}
 use Rattle.window.specs.declared.FourRings.{FourRings}
 use Rattle.window.specs.declared.Rings.{Rings}
 use Rattle.window.specs.declared.Window.{Window}
 use Rattle.window.specs.declared.Restarted.{Restarted}
-use Rattle.window.specs.declared.Buffered.{Buffered}
-use Rattle.window.specs.declared.Peaks.{Peaks}
-use Rattle.window.specs.declared.PeakRecords.{PeakRecords}
-use Rattle.window.specs.declared.SubstreamPeaks.{SubstreamPeaks}
-use Rattle.window.specs.declared.Answer.the-variants.{Accepted, RecordDoesNotFit, ContributionTooLarge, DepthTooLarge}
-use Rattle.window.proofs.Index.{passed}
+use Rattle.levels.specs.declared.Answer.the-variants.{Accepted, RecordDoesNotFit, ContributionTooLarge, DepthTooLarge}
+use Rattle.levels.specs.NumberLaws.{write-of-fit}
 use Rattle.window.proofs.Keeps.{drain-room, drain-write}
 
 pub emptied-five : (depth : List Depth) {a b c d e : Depth} → a ≡ emptiedOf (depthAt depth 0) → b ≡ emptiedOf (depthAt depth 1) → c ≡ emptiedOf (depthAt depth 2)
@@ -65,29 +59,6 @@ pub window-fresh : {r : Rings} {l : Levels} → r ≡ freshRingsOf → l ≡ fre
 unfolding freshOf
 window-fresh p q = rw (p, q)
 
--- a record that fits has both slot numbers below 128
-slots-fit : (l : Levels) → fitsOf l ≡ true → (l .read < 128) × (l .write < 128)
-unfolding fitsOf
-slots-fit l e =
-    let a = passed _ _ e in
-    let b = passed _ _ (a .1) in
-    let u : l .read ≤ 127 = ltb-false 127 (l .read) (a .0) in
-    let v : l .write ≤ 127 = ltb-false 127 (l .write) (b .0) in
-    (omega arith, omega arith)
-
-module _ (l : Levels) {x : Bool} (e : x ≡ fitsOf l) (yes : x ≡ true) where
-  pub read-fits : l .read < 128
-  read-fits = slots-fit l (sym e ∙ yes) .0
-
-  pub write-fits : l .write < 128
-  write-fits = slots-fit l (sym e ∙ yes) .1
-
-pub read-of-fit : (l : Levels) → fitsOf l ≡ true → l .read < 128
-read-of-fit l e = slots-fit l e .0
-
-pub write-of-fit : (l : Levels) → fitsOf l ≡ true → l .write < 128
-write-of-fit l e = slots-fit l e .1
-
 -- what the add asks, after the drain
 module _ (n : ℕ) (rings : Rings) (playhead : SampleTime) (l : Levels) {d : Drained} (e : d ≡ drainOf n rings playhead l) where
   pub drained-write-fits : fitsOf l ≡ true → d .levels .write < 128
@@ -103,44 +74,11 @@ module _ (w : Window) {x : Bool} (e : x ≡ fitsOf (w .levels)) where
     unfolding restartedOf
     restart-refused = rw (← e, off)
 
-    pub buffered-refused : _≡_ {A = Buffered} (record { units = 0; answer = RecordDoesNotFit }) (bufferedOf w)
-    unfolding bufferedOf
-    buffered-refused = rw (← e, off)
-
-    pub peaks-refused : _≡_ {A = Peaks} (record { peaks = replicate 5 0; answer = RecordDoesNotFit }) (peaksOf w)
-    unfolding peaksOf
-    peaks-refused = rw (← e, off)
-
-    pub peak-records-refused : _≡_ {A = PeakRecords} (record { peaks = replicate 5 noPeak; answer = RecordDoesNotFit }) (peakRecordsOf w)
-    unfolding peakRecordsOf
-    peak-records-refused = rw (← e, off)
-
-    pub substream-peaks-refused : _≡_ {A = SubstreamPeaks} (record { peaks = replicate 4 0; answer = RecordDoesNotFit }) (substreamPeaksOf w)
-    unfolding substreamPeaksOf
-    substream-peaks-refused = rw (← e, off)
-
   module _ (yes : x ≡ true) where
     pub restart-done : {r : Rings} {l : Levels} → r ≡ freshRingsOf → l ≡ restartedLevelsOf (w .levels)
         → _≡_ {A = Restarted} (record { window = record { rings = r; levels = l }; answer = Accepted }) (restartedOf w)
     unfolding restartedOf
     restart-done p q = rw (← e, yes, p, q)
-
-    pub buffered-done : {n : ℕ} → n ≡ heldOf (w .levels .read) (w .levels .write) → _≡_ {A = Buffered} (record { units = n; answer = Accepted }) (bufferedOf w)
-    unfolding bufferedOf
-    buffered-done p = rw (← e, yes, p)
-
-    pub peaks-done : {p : List ℕ} → p ≡ peakTotalsOf (w .levels .depth) → _≡_ {A = Peaks} (record { peaks = p; answer = Accepted }) (peaksOf w)
-    unfolding peaksOf
-    peaks-done p = rw (← e, yes, p)
-
-    pub peak-records-done : {p : List Peak} → p ≡ peaksAt (w .levels .depth) → _≡_ {A = PeakRecords} (record { peaks = p; answer = Accepted }) (peakRecordsOf w)
-    unfolding peakRecordsOf
-    peak-records-done p = rw (← e, yes, p)
-
-    pub substream-peaks-done : {p : List ℕ} → p ≡ substreamPeaksAt (w .levels .substream)
-        → _≡_ {A = SubstreamPeaks} (record { peaks = p; answer = Accepted }) (substreamPeaksOf w)
-    unfolding substreamPeaksOf
-    substream-peaks-done p = rw (← e, yes, p)
 
 -- a step: the tests in the order 1, 12, 13
 module _ (w : Window) (playhead removal : SampleTime) (c : Contribution) where

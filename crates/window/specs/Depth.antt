@@ -2,9 +2,9 @@
 use Prim.Native.Nat.{ℕ, _+_, _-_}
 use lib.Dec.{leb, ltb}
 use Rattle.laws.specs.Pick.{pick}
-use Rattle.window.specs.declared.Peak.{Peak}
-use Rattle.window.specs.declared.Depth.{Depth}
-use Rattle.window.specs.declared.SubstreamDepth.{SubstreamDepth}
+use Rattle.levels.specs.declared.Peak.{Peak}
+use Rattle.levels.specs.declared.Depth.{Depth}
+use Rattle.levels.specs.declared.SubstreamDepth.{SubstreamDepth}
 
 -- "A peak takes total, stream part and overhead (total minus stream part, not below 0) when total rises above it"
 unfoldable pub sampledOf : ℕ → ℕ → Peak → Depth

@@ -2,7 +2,7 @@
 use mathlib.Core.List.{List, [], _∷_}
 use Rattle.kinds.specs.declared.SampleTime.{SampleTime}
 use Rattle.window.specs.Window.{pushedOf, restartedOf}
-use Rattle.window.specs.declared.Contribution.{Contribution}
+use Rattle.levels.specs.declared.Contribution.{Contribution}
 use Rattle.window.specs.declared.Window.{Window}
 
 pub data Call : Type 0 where

@@ -1,32 +1,17 @@
 -- All of a window but its rings: what one unit does to it, at every accumulator and substream.
-use Prim.Native.Nat.{ℕ, _+_, _-_, _%_}
+use Prim.Native.Nat.{ℕ, _+_, _%_}
 use mathlib.Core.List.{List}
 use lib.Dec.{ltb}
 use lib.ListN.{getD}
-use Rattle.window.specs.Index.{five, four, highest}
+use Rattle.levels.specs.Index.{five, four}
+use Rattle.levels.specs.Levels.{noDepth, noSubstream, depthAt, substreamAt}
+use Rattle.window.specs.Index.{highest}
 use Rattle.window.specs.Depth.{emptiedOf, emptiedSubstreamOf, leftOf, addedOf, leftSubstreamOf, addedSubstreamOf}
-use Rattle.window.specs.declared.Contribution.{Contribution}
-use Rattle.window.specs.declared.Peak.{Peak}
-use Rattle.window.specs.declared.Depth.{Depth}
-use Rattle.window.specs.declared.SubstreamDepth.{SubstreamDepth}
-use Rattle.window.specs.declared.Levels.{Levels}
+use Rattle.levels.specs.declared.Contribution.{Contribution}
+use Rattle.levels.specs.declared.Depth.{Depth}
+use Rattle.levels.specs.declared.SubstreamDepth.{SubstreamDepth}
+use Rattle.levels.specs.declared.Levels.{Levels}
 use Rattle.window.specs.declared.Underrun.{Underrun}
-
--- an accumulator and a substream that never held a byte
-abbrev pub noPeak : Peak
-noPeak = record { total = 0; stream = 0; overhead = 0 }
-
-abbrev pub noDepth : Depth
-noDepth = record { total = 0; stream = 0; peak = noPeak }
-
-abbrev pub noSubstream : SubstreamDepth
-noSubstream = record { bytes = 0; peak = 0 }
-
-abbrev pub depthAt : List Depth → ℕ → Depth
-depthAt depth k = getD depth k noDepth
-
-abbrev pub substreamAt : List SubstreamDepth → ℕ → SubstreamDepth
-substreamAt substream i = getD substream i noSubstream
 
 -- one rule at each accumulator, with what the unit has for it
 unfoldable pub eachDepth : (Depth → ℕ → ℕ → Depth) → List Depth → Contribution → List Depth
@@ -61,20 +46,6 @@ addedLevelsOf l c = record {
 -- "The report has the five depths"
 unfoldable pub totalsOf : List Depth → List ℕ
 totalsOf depth = five (λ k. depthAt depth k .total)
-
--- the peaks, whole and their totals alone
-unfoldable pub peaksAt : List Depth → List Peak
-peaksAt depth = five (λ k. depthAt depth k .peak)
-
-unfoldable pub peakTotalsOf : List Depth → List ℕ
-peakTotalsOf depth = five (λ k. depthAt depth k .peak .total)
-
-unfoldable pub substreamPeaksAt : List SubstreamDepth → List ℕ
-substreamPeaksAt substream = four (λ i. substreamAt substream i .peak)
-
--- "Units held: write minus read, modulo 128"
-unfoldable pub heldOf : ℕ → ℕ → ℕ
-heldOf read write = (write + 128 - read) % 128
 
 -- a window that never held a unit
 unfoldable pub freshLevelsOf : Levels

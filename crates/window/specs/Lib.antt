@@ -1,7 +1,6 @@
 pub mod Index
 pub mod Depth
 pub mod Levels
-pub mod Numbers
 pub mod Rings
 pub mod Window
 pub mod History

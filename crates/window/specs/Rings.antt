@@ -3,7 +3,7 @@ use Prim.Native.Nat.{ℕ}
 use mathlib.Core.List.{List, [], _∷_}
 use lib.ListN.{set, getD, replicate}
 use Rattle.kinds.specs.declared.SampleTime.{SampleTime}
-use Rattle.window.specs.declared.Contribution.{Contribution}
+use Rattle.levels.specs.declared.Contribution.{Contribution}
 use Rattle.window.specs.declared.FiveRings.{FiveRings}
 use Rattle.window.specs.declared.FourRings.{FourRings}
 use Rattle.window.specs.declared.Rings.{Rings}

@@ -4,13 +4,8 @@ ghost use mathlib.Core.Path.{_≡_};
 ghost use mathlib.Core.Bool.{true};
 ghost use Prim.Native.Nat.{_<_};
 ghost use Rattle.window.specs.Depth.{leftOf, addedOf, leftSubstreamOf, addedSubstreamOf};
-ghost use Rattle.window.specs.Levels.{eachDepth, eachSubstream, drainedOf, addedLevelsOf, underrunOf, totalsOf, peakTotalsOf, peaksAt, substreamPeaksAt, heldOf, emptiedDepthsOf, emptiedSubstreamsOf, restartedLevelsOf, freshLevelsOf};
-ghost use Rattle.window.specs.Numbers.{depthsRoom, substreamsRoom, roomOf};
-use crate::Contribution;
-use crate::Depth;
-use crate::Levels;
-use crate::Peak;
-use crate::SubstreamDepth;
+ghost use Rattle.window.specs.Levels.{eachDepth, eachSubstream, drainedOf, addedLevelsOf, underrunOf, totalsOf, emptiedDepthsOf, emptiedSubstreamsOf, restartedLevelsOf, freshLevelsOf};
+ghost use Rattle.levels.specs.Numbers.{depthsRoom, substreamsRoom, roomOf};
 use crate::Underrun;
 use crate::single::add;
 use crate::single::add_substream;
@@ -18,6 +13,11 @@ use crate::single::emptied;
 use crate::single::emptied_substream;
 use crate::single::leave;
 use crate::single::leave_substream;
+use levels::Contribution;
+use levels::Depth;
+use levels::Levels;
+use levels::Peak;
+use levels::SubstreamDepth;
 
 fn leave_depths(depth: [Depth; 5], contribution: Contribution) -> [Depth; 5]
     ensures { λ r. ⌜ r ≡ eachDepth leftOf depth contribution ⌝ }
@@ -126,49 +126,6 @@ pub(crate) fn totals(depth: [Depth; 5]) -> [u64; 5]
     [a.total, b.total, c.total, d.total, e.total]
 }
 
-pub(crate) fn peak_totals(depth: [Depth; 5]) -> [u64; 5]
-    ensures { λ r. ⌜ r ≡ peakTotalsOf depth ⌝ }
-{
-    let a = depth[0];
-    let b = depth[1];
-    let c = depth[2];
-    let d = depth[3];
-    let e = depth[4];
-    [
-        a.peak.total,
-        b.peak.total,
-        c.peak.total,
-        d.peak.total,
-        e.peak.total,
-    ]
-}
-
-pub(crate) fn peak_records_of(depth: [Depth; 5]) -> [Peak; 5]
-    ensures { λ r. ⌜ r ≡ peaksAt depth ⌝ }
-{
-    let a = depth[0];
-    let b = depth[1];
-    let c = depth[2];
-    let d = depth[3];
-    let e = depth[4];
-    let pa = a.peak;
-    let pb = b.peak;
-    let pc = c.peak;
-    let pd = d.peak;
-    let pe = e.peak;
-    [pa, pb, pc, pd, pe]
-}
-
-pub(crate) fn substream_peaks_of(substream: [SubstreamDepth; 4]) -> [u64; 4]
-    ensures { λ r. ⌜ r ≡ substreamPeaksAt substream ⌝ }
-{
-    let a = substream[0];
-    let b = substream[1];
-    let c = substream[2];
-    let d = substream[3];
-    [a.peak, b.peak, c.peak, d.peak]
-}
-
 fn emptied_depths(depth: [Depth; 5]) -> [Depth; 5]
     ensures { λ r. ⌜ r ≡ emptiedDepthsOf depth ⌝ }
 {
@@ -228,12 +185,4 @@ pub(crate) fn fresh_levels() -> Levels
         depth,
         substream,
     }
-}
-
-// Write minus read, modulo 128: the ring has no count, so 128 units held and none held are the same.
-pub(crate) fn held(read: usize, write: usize) -> usize
-    requires { ⌜ (read < 128) × (write < 128) ⌝ }
-    ensures { λ r. ⌜ r ≡ heldOf read write ⌝ }
-{
-    (write + 128 - read) % 128
 }

@@ -5,72 +5,30 @@
 // and comes back; a call that refuses hands it back as it was.
 //
 // The window has two parts. The rings hold the units in flight, a slot each; the levels are the small rest: slot numbers, depths and
-// peaks. The loop that drains changes the levels alone, so no ring is copied in it.
+// peaks (crate `levels`, which also answers what is asked of a window). The loop that drains changes the levels alone, so no ring is
+// copied in it.
 mod single; // one accumulator, one substream
 mod every; // all of them, and what one slot does to the levels
-mod numbers; // the conditions of numbers 1, 12 and 13
 mod slots; // the rings and the drain
 
 ghost use mathlib.Core.Path.{_≡_};
 ghost use mathlib.Core.Bool.{true};
-ghost use Rattle.window.specs.Numbers.{fitsOf, roomOf};
-ghost use Rattle.window.specs.Window.{freshOf, steppedOf, refusedOf, pushedOf, restartedOf, bufferedOf, peaksOf, peakRecordsOf, substreamPeaksOf};
+ghost use Rattle.levels.specs.Numbers.{fitsOf, roomOf};
+ghost use Rattle.window.specs.Window.{freshOf, steppedOf, refusedOf, pushedOf, restartedOf};
 use every::add_slot;
 use every::fresh_levels;
-use every::held;
-use every::peak_records_of;
-use every::peak_totals;
 use every::restart_levels;
-use every::substream_peaks_of;
 use every::totals;
 use kinds::SampleTime;
-use numbers::fits;
-use numbers::room;
-use numbers::small;
+use levels::Answer;
+use levels::Contribution;
+use levels::Levels;
+use levels::numbers::fits;
+use levels::numbers::room;
+use levels::numbers::small;
 use slots::drain;
 use slots::fresh_rings;
 use slots::write_slot;
-
-// What one unit adds, in bytes. `total` is what an accumulator is capped on, `stream` the part of it that is substream payload, and
-// `substream` each substream's own payload.
-#[repr(C)]
-pub struct Contribution {
-    pub total: [u32; 5],
-    pub stream: [u32; 5],
-    pub substream: [u32; 4],
-}
-
-// Deepest one accumulator has been, and what it held at that moment.
-#[repr(C)]
-pub struct Peak {
-    pub total: u64,
-    pub stream: u64,
-    pub overhead: u64,
-}
-
-// One accumulator: the bytes it holds now, the stream part of them, and its peak.
-#[repr(C)]
-pub struct Depth {
-    pub total: u64,
-    pub stream: u64,
-    pub peak: Peak,
-}
-
-// One substream: the bytes it holds now, and the most it has held.
-#[repr(C)]
-pub struct SubstreamDepth {
-    pub bytes: u64,
-    pub peak: u64,
-}
-
-// All of a window but its rings.
-#[repr(C)]
-pub struct Levels {
-    pub read: usize,
-    pub write: usize,
-    pub depth: [Depth; 5],
-    pub substream: [SubstreamDepth; 4],
-}
 
 // A ring for each accumulator, of its bytes or of their stream part.
 #[repr(C)]
@@ -118,14 +76,6 @@ pub struct Report {
     pub underrun: Underrun,
 }
 
-// The answer of every call that takes a window.
-pub enum Answer {
-    Accepted,
-    RecordDoesNotFit,
-    ContributionTooLarge,
-    DepthTooLarge,
-}
-
 pub struct Pushed {
     pub window: Window,
     pub report: Report,
@@ -135,30 +85,6 @@ pub struct Pushed {
 // What a restart gives back.
 pub struct Restarted {
     pub window: Window,
-    pub answer: Answer,
-}
-
-// The units held.
-pub struct Buffered {
-    pub units: usize,
-    pub answer: Answer,
-}
-
-// Deepest each accumulator has been.
-pub struct Peaks {
-    pub peaks: [u64; 5],
-    pub answer: Answer,
-}
-
-// Deepest each accumulator has been, with the stream and overhead parts it held then.
-pub struct PeakRecords {
-    pub peaks: [Peak; 5],
-    pub answer: Answer,
-}
-
-// Deepest each substream's own bytes have been.
-pub struct SubstreamPeaks {
-    pub peaks: [u64; 4],
     pub answer: Answer,
 }
 
@@ -267,89 +193,6 @@ impl Window {
         };
         Restarted {
             window,
-            answer: Answer::Accepted,
-        }
-    }
-
-    // Units held in the window.
-    pub fn buffered(self) -> Buffered
-        ensures { λ r. ⌜ r ≡ bufferedOf self ⌝ }
-    {
-        let levels = self.levels;
-        if fits(levels) {} else {
-            return Buffered {
-                units: 0,
-                answer: Answer::RecordDoesNotFit,
-            };
-        }
-        let units = held(levels.read, levels.write);
-        Buffered {
-            units,
-            answer: Answer::Accepted,
-        }
-    }
-
-    // Deepest each accumulator has been over the stream.
-    pub fn peaks(self) -> Peaks
-        ensures { λ r. ⌜ r ≡ peaksOf self ⌝ }
-    {
-        let levels = self.levels;
-        if fits(levels) {} else {
-            let none = [0; 5];
-            return Peaks {
-                peaks: none,
-                answer: Answer::RecordDoesNotFit,
-            };
-        }
-        let depth = levels.depth;
-        let peaks = peak_totals(depth);
-        Peaks {
-            peaks,
-            answer: Answer::Accepted,
-        }
-    }
-
-    // Deepest each accumulator has been, with the stream and overhead parts it held then.
-    pub fn peak_records(self) -> PeakRecords
-        ensures { λ r. ⌜ r ≡ peakRecordsOf self ⌝ }
-    {
-        let levels = self.levels;
-        if fits(levels) {} else {
-            let peak = Peak {
-                total: 0,
-                stream: 0,
-                overhead: 0,
-            };
-            let none = [peak; 5];
-            return PeakRecords {
-                peaks: none,
-                answer: Answer::RecordDoesNotFit,
-            };
-        }
-        let depth = levels.depth;
-        let peaks = peak_records_of(depth);
-        PeakRecords {
-            peaks,
-            answer: Answer::Accepted,
-        }
-    }
-
-    // Deepest each substream's own bytes have been, with no overhead priced in.
-    pub fn substream_peaks(self) -> SubstreamPeaks
-        ensures { λ r. ⌜ r ≡ substreamPeaksOf self ⌝ }
-    {
-        let levels = self.levels;
-        if fits(levels) {} else {
-            let none = [0; 4];
-            return SubstreamPeaks {
-                peaks: none,
-                answer: Answer::RecordDoesNotFit,
-            };
-        }
-        let substream = levels.substream;
-        let peaks = substream_peaks_of(substream);
-        SubstreamPeaks {
-            peaks,
             answer: Answer::Accepted,
         }
     }

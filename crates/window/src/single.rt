@@ -3,10 +3,10 @@ ghost use mathlib.Core.Path.{_≡_};
 ghost use mathlib.Core.Bool.{true};
 ghost use Prim.Native.Nat.{_-_};
 ghost use Rattle.window.specs.Depth.{sampledOf, leftOf, addedOf, sampledSubstreamOf, leftSubstreamOf, addedSubstreamOf, emptiedOf, emptiedSubstreamOf};
-ghost use Rattle.window.specs.Numbers.{roomAt, depthRoom};
-use crate::Depth;
-use crate::Peak;
-use crate::SubstreamDepth;
+ghost use Rattle.levels.specs.Numbers.{roomAt, depthRoom};
+use levels::Depth;
+use levels::Peak;
+use levels::SubstreamDepth;
 
 // The difference, not below 0.
 fn saturating_sub(a: u64, b: u64) -> u64

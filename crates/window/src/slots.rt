@@ -3,16 +3,16 @@ ghost use mathlib.Core.Path.{_≡_};
 ghost use Prim.Native.Nat.{_<_};
 ghost use Rattle.window.specs.Rings.{freshFive, freshFour, freshRingsOf, writtenFive, writtenFour, writtenOf, contributionFrom};
 ghost use Rattle.window.specs.Window.{drainOf};
-use crate::Contribution;
 use crate::Drained;
 use crate::FiveRings;
 use crate::FourRings;
-use crate::Levels;
 use crate::Rings;
 use crate::Underrun;
 use crate::every::drain_slot;
 use crate::every::highest_underrun;
 use kinds::SampleTime;
+use levels::Contribution;
+use levels::Levels;
 
 fn fresh_five() -> FiveRings
     ensures { λ r. ⌜ r ≡ freshFive ⌝ }

@@ -4,16 +4,16 @@ mod text; // words and numbers in columns
 mod caps; // the caps, of every accumulator and info byte
 
 use kinds::SampleTime;
+use levels::Contribution;
+use levels::Depth;
+use levels::Levels;
+use levels::Peak;
+use levels::SubstreamDepth;
 use text::answer;
 use text::column;
 use text::line;
 use text::number;
 use text::word;
-use window::Contribution;
-use window::Depth;
-use window::Levels;
-use window::Peak;
-use window::SubstreamDepth;
 use window::Underrun;
 use window::Window;
 
@@ -68,12 +68,13 @@ fn push(w: Window, playhead: u64, removal: u64, c: Contribution) -> Window {
     let depths = report.depths;
     five(depths);
     let next = pushed.window;
-    held(next);
+    let levels = next.levels;
+    held(levels);
     next
 }
 
-fn held(w: Window) {
-    let b = w.buffered();
+fn held(levels: Levels) {
+    let b = levels.buffered();
     word(b" held ");
     number(b.units as u64);
     line();
@@ -109,8 +110,7 @@ fn peak(k: u64, p: Peak) {
     line();
 }
 
-fn depths(w: Window) {
-    let levels = w.levels;
+fn depths(levels: Levels) {
     accumulator(0, levels.depth[0]);
     accumulator(1, levels.depth[1]);
     accumulator(2, levels.depth[2]);
@@ -122,20 +122,20 @@ fn depths(w: Window) {
     substream(3, levels.substream[3]);
 }
 
-fn peaks(w: Window) {
-    let totals = w.peaks();
+fn peaks(levels: Levels) {
+    let totals = levels.peaks();
     word(b"  peaks          ");
     let t = totals.peaks;
     five(t);
     line();
-    let records = w.peak_records();
+    let records = levels.peak_records();
     let p = records.peaks;
     peak(0, p[0]);
     peak(1, p[1]);
     peak(2, p[2]);
     peak(3, p[3]);
     peak(4, p[4]);
-    let substreams = w.substream_peaks();
+    let substreams = levels.substream_peaks();
     word(b"  substream peaks");
     let s = substreams.peaks;
     four(s);
@@ -144,8 +144,9 @@ fn peaks(w: Window) {
 
 // Everything that a window holds.
 fn show(w: Window) {
-    depths(w);
-    peaks(w);
+    let levels = w.levels;
+    depths(levels);
+    peaks(levels);
     line();
 }
 
@@ -221,7 +222,8 @@ fn overwritten() {
     word(b"127 units are held; the 129th overwrites the first and counts as one held\n");
     let a = filled(127);
     word(b" ");
-    held(a);
+    let levels = a.levels;
+    held(levels);
     let b = push(a, 0, 1000, even(2, 1, 1));
     let c = push(b, 0, 1000, even(3, 1, 1));
     let d = push(c, 0, 1000, even(4, 1, 1));
@@ -313,22 +315,23 @@ fn every_call(w: Window) {
     let restarted = w.restart();
     let b = restarted.answer;
     answer(b);
-    let buffered = w.buffered();
+    let levels = w.levels;
+    let buffered = levels.buffered();
     let c = buffered.answer;
     answer(c);
-    rest_of_calls(w);
+    rest_of_calls(levels);
     let after = pushed.window;
     slots(after);
 }
 
-fn rest_of_calls(w: Window) {
-    let peaks = w.peaks();
+fn rest_of_calls(levels: Levels) {
+    let peaks = levels.peaks();
     let a = peaks.answer;
     answer(a);
-    let records = w.peak_records();
+    let records = levels.peak_records();
     let b = records.answer;
     answer(b);
-    let substreams = w.substream_peaks();
+    let substreams = levels.substream_peaks();
     let c = substreams.answer;
     answer(c);
 }

@@ -1,5 +1,5 @@
 // Words and numbers on standard output, in columns.
-use window::Answer;
+use levels::Answer;
 
 pub fn word(w: &[u8]) {
     io::write_all(1, w);

@@ -5,15 +5,17 @@
 // parts of an answer are laid flat, so that the window goes through untouched.
 ghost use mathlib.Core.Path.{_≡_};
 ghost use Rattle.byte_caps.specs.Caps.{fbaCapOf, fbbCapOf};
-ghost use Rattle.window.specs.Window.{numberOf, freshOf, pushedOf, restartedOf, bufferedOf, peaksOf, peakRecordsOf, substreamPeaksOf};
+ghost use Rattle.levels.specs.Numbers.{numberOf};
+ghost use Rattle.window.specs.Window.{freshOf, pushedOf, restartedOf};
+ghost use Rattle.levels.specs.Questions.{bufferedOf, peaksOf, peakRecordsOf, substreamPeaksOf};
 ghost use Rattle.window_exports.specs.Flat.{timeOf, underrunFlat, pushedFlat, restartedFlat, bufferedFlat, peaksFlat, peakRecordsFlat, substreamPeaksFlat, capFlat};
 use byte_caps::Cap;
 use byte_caps::fba_cap;
 use byte_caps::fbb_cap;
 use kinds::SampleTime;
-use window::Answer;
-use window::Contribution;
-use window::Peak;
+use levels::Answer;
+use levels::Contribution;
+use levels::Peak;
 use window::Underrun;
 use window::Window;
 
@@ -173,9 +175,10 @@ pub extern "C" fn mv_window_restart(window: Window) -> MvRestarted
 // Units held in the window; number 1.
 #[no_mangle]
 pub extern "C" fn mv_window_buffered(window: Window) -> MvBuffered
-    ensures { λ r. ⌜ r ≡ bufferedFlat (bufferedOf window) ⌝ }
+    ensures { λ r. ⌜ r ≡ bufferedFlat (bufferedOf (window .levels)) ⌝ }
 {
-    let buffered = window.buffered();
+    let levels = window.levels;
+    let buffered = levels.buffered();
     let answer = buffered.answer;
     MvBuffered {
         units: buffered.units,
@@ -186,9 +189,10 @@ pub extern "C" fn mv_window_buffered(window: Window) -> MvBuffered
 // Deepest each accumulator has been over the stream; number 1.
 #[no_mangle]
 pub extern "C" fn mv_window_peaks(window: Window) -> MvPeaks
-    ensures { λ r. ⌜ r ≡ peaksFlat (peaksOf window) ⌝ }
+    ensures { λ r. ⌜ r ≡ peaksFlat (peaksOf (window .levels)) ⌝ }
 {
-    let deepest = window.peaks();
+    let levels = window.levels;
+    let deepest = levels.peaks();
     let peaks = deepest.peaks;
     let answer = deepest.answer;
     MvPeaks {
@@ -200,9 +204,10 @@ pub extern "C" fn mv_window_peaks(window: Window) -> MvPeaks
 // Deepest each accumulator has been, with the stream and overhead parts it held then; number 1.
 #[no_mangle]
 pub extern "C" fn mv_window_peak_records(window: Window) -> MvPeakRecords
-    ensures { λ r. ⌜ r ≡ peakRecordsFlat (peakRecordsOf window) ⌝ }
+    ensures { λ r. ⌜ r ≡ peakRecordsFlat (peakRecordsOf (window .levels)) ⌝ }
 {
-    let records = window.peak_records();
+    let levels = window.levels;
+    let records = levels.peak_records();
     let peaks = records.peaks;
     let answer = records.answer;
     MvPeakRecords {
@@ -214,9 +219,10 @@ pub extern "C" fn mv_window_peak_records(window: Window) -> MvPeakRecords
 // Deepest each substream's own bytes have been, with no overhead priced in; number 1.
 #[no_mangle]
 pub extern "C" fn mv_window_substream_peaks(window: Window) -> MvSubstreamPeaks
-    ensures { λ r. ⌜ r ≡ substreamPeaksFlat (substreamPeaksOf window) ⌝ }
+    ensures { λ r. ⌜ r ≡ substreamPeaksFlat (substreamPeaksOf (window .levels)) ⌝ }
 {
-    let substreams = window.substream_peaks();
+    let levels = window.levels;
+    let substreams = levels.substream_peaks();
     let peaks = substreams.peaks;
     let answer = substreams.answer;
     MvSubstreamPeaks {

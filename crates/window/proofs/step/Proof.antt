@@ -1,5 +1,6 @@
 -- The slot is written, the drain is the definition's, and what room there was before it is there after it.
-use Rattle.window.proofs.Whole.{stepped, read-of-fit, write-of-fit, drained-write-fits, drained-has-room}
+use Rattle.window.proofs.Whole.{stepped, drained-write-fits, drained-has-room}
+use Rattle.levels.specs.NumberLaws.{read-of-fit, write-of-fit}
 use borrow.Author.Needs.{needs}
 use Rattle.window.proofs.step.Statement.{statement}
 use Rattle.window.proofs.step.Tie as tie

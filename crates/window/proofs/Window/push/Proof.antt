@@ -1,5 +1,5 @@
 -- The tests are those of the definition, in its order.
-use Rattle.window.proofs.Index.{told}
+use Rattle.laws.specs.Pick.{told}
 use Rattle.window.proofs.Whole.{push-record, push-contribution, push-depth, push-stepped}
 use borrow.Author.Needs.{needs}
 use Rattle.window.proofs.Window.push.Statement.{statement}

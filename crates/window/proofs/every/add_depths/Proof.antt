@@ -1,5 +1,6 @@
 -- Each accumulator has room and is the rule at its index.
-use Rattle.window.proofs.All.{each-five, depth-has-room}
+use Rattle.window.proofs.All.{each-five}
+use Rattle.levels.specs.NumberLaws.{depth-has-room}
 use borrow.Author.Needs.{needs}
 use Rattle.window.proofs.every.add_depths.Statement.{statement}
 use Rattle.window.proofs.every.add_depths.Tie as tie

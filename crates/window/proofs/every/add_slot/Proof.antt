@@ -1,5 +1,6 @@
 -- There is room for every sum; the unit joins every accumulator and substream, and the write slot moves on.
-use Rattle.window.proofs.All.{slot-added, room-of-depths, room-of-substreams}
+use Rattle.window.proofs.All.{slot-added}
+use Rattle.levels.specs.NumberLaws.{room-of-depths, room-of-substreams}
 use borrow.Author.Needs.{needs}
 use Rattle.window.proofs.every.add_slot.Statement.{statement}
 use Rattle.window.proofs.every.add_slot.Tie as tie

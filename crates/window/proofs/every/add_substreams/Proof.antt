@@ -1,5 +1,6 @@
 -- Each substream has room and is the rule at its index.
-use Rattle.window.proofs.All.{each-four, substream-has-room}
+use Rattle.window.proofs.All.{each-four}
+use Rattle.levels.specs.NumberLaws.{substream-has-room}
 use borrow.Author.Needs.{needs}
 use Rattle.window.proofs.every.add_substreams.Statement.{statement}
 use Rattle.window.proofs.every.add_substreams.Tie as tie

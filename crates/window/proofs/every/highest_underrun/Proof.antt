@@ -6,7 +6,8 @@ use Rattle.window.proofs.Index.{highest-end, highest-stop, highest-on}
 use borrow.Author.Tests.{lt-ltb, le-ltb}
 use lib.Dec.{ltb}
 use lib.ListN.{getD}
-use Rattle.window.specs.Levels.{depthAt, underrunOf}
+use Rattle.levels.specs.Levels.{depthAt}
+use Rattle.window.specs.Levels.{underrunOf}
 use borrow.Author.Needs.{needs}
 use Rattle.window.proofs.every.highest_underrun.Statement.{statement}
 use Rattle.window.proofs.every.highest_underrun.Tie as tie

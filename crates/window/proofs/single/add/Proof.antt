@@ -1,5 +1,5 @@
 -- There is room for both sums, and the peak is looked at after them.
-use Rattle.window.proofs.Accumulator.{depth-room-says}
+use Rattle.levels.specs.NumberLaws.{depth-room-says}
 use Rattle.window.specs.Depth.{addedOf}
 use borrow.Author.Needs.{needs}
 use Rattle.window.proofs.single.add.Statement.{statement}

@@ -1,5 +1,5 @@
 -- There is room for the sum, and the peak is looked at after it.
-use Rattle.window.proofs.Accumulator.{room-says}
+use Rattle.levels.specs.NumberLaws.{room-says}
 use Rattle.window.specs.Depth.{addedSubstreamOf}
 use borrow.Author.Needs.{needs}
 use Rattle.window.proofs.single.add_substream.Statement.{statement}
