@@ -6,8 +6,6 @@ use Rattle.extract.proofs.Extractor.fits.Reads as fits
 use Rattle.extract.proofs.Extractor.open.Reads as opens
 use Rattle.extract.proofs.Extractor.push_bytes.Reads as push-bytes
 use Rattle.extract.proofs.Extractor.next.Reads as next
-use Rattle.extract.proofs.part.Reads as part
-use Rattle.extract.proofs.is_major_sync.Reads as is-major-sync
 
 pub record-fits-one : (κs : _) (a : _) (r r′ : _) (e e′ : _) → record-fits.Post κs a r e → record-fits.Post κs a r′ e′ → r ≡ r′
 record-fits-one κs a r r′ e e′ p q = p ∙ sym q
@@ -25,9 +23,3 @@ push-bytes-one κs a r r′ e e′ p q = (p .0 ∙ sym (q .0), p .1 ∙ sym (q .
 -- the buffer is lent as `&`: nothing in it is written
 pub next-one : (κs : _) (a : _) (r r′ : _) (e e′ : _) → next.Post κs a r e → next.Post κs a r′ e′ → r ≡ r′
 next-one κs a r r′ e e′ p q = p ∙ sym q
-
-pub part-one : (κs : _) (a : _) (r r′ : _) (e e′ : _) → part.Post κs a r e → part.Post κs a r′ e′ → now r ≡ now r′
-part-one κs a r r′ e e′ p q = p ∙ sym q
-
-pub is-major-sync-one : (κs : _) (a : _) (r r′ : _) (e e′ : _) → is-major-sync.Post κs a r e → is-major-sync.Post κs a r′ e′ → r ≡ r′
-is-major-sync-one κs a r r′ e e′ p q = p ∙ sym q

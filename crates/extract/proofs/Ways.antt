@@ -3,9 +3,7 @@ use Prim.Native.Nat.{ℕ, _+_, _-_, _≤_, _<_}
 use native.Mathlib.Omega.{arith}
 use mathlib.Core.Path.{_≡_, refl, sym, _∙_}
 use mathlib.Core.Bool.{Bool, true, false}
-use mathlib.Core.List.{List, []}
 use lib.Dec.{leb, eqb}
-use lib.ListN.{length, take, drop}
 use borrow.Author.Tests.{eq-eqb, ne-eqb, le-leb, lt-leb}
 use Rattle.laws.specs.Pick.{pick}
 use Rattle.crc.specs.declared.Algorithm.{Algorithm}
@@ -13,7 +11,7 @@ use Rattle.extract.specs.declared.Opened.{Opened}
 use Rattle.extract.specs.declared.Opened.the-variants.{Open, Refused}
 use Rattle.extract.specs.declared.Extractor.{Extractor}
 use Rattle.extract.specs.Record.{most, roomFits, recordFits, fitsOf, opened}
-use Rattle.extract.specs.Calls.{openedOf, partOf}
+use Rattle.extract.specs.Calls.{openedOf}
 
 -- sums tested by differences
 module _ (a b n : ℕ) where
@@ -104,17 +102,3 @@ module _ (r : Extractor) (n : ℕ) {a : Bool} (ea : a ≡ recordFits r) where
     pub fits-to-the-end : b ≡ true → leb (r .end) n ≡ fitsOf r n
     unfolding fitsOf
     fits-to-the-end t = rw (← ea, ta, ← eb, t)
-
--- a part
-module _ (buf : List ℕ) (start n : ℕ) where
-  pub part-inside : start ≤ length buf → n ≤ length buf - start → take (start + n - start) (drop start buf) ≡ partOf buf start n
-  unfolding partOf
-  part-inside s l = let e : start + n - start ≡ n = omega arith in rw (e, le-leb (start + n) (length buf) (omega arith))
-
-  pub part-too-long : start ≤ length buf → length buf - start < n → [] ≡ partOf buf start n
-  unfolding partOf
-  part-too-long s l = rw (lt-leb (start + n) (length buf) (omega arith))
-
-  pub part-too-far : length buf < start → [] ≡ partOf buf start n
-  unfolding partOf
-  part-too-far l = rw (lt-leb (start + n) (length buf) (omega arith))

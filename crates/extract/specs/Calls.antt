@@ -1,14 +1,12 @@
 -- What each call answers, and what it leaves of record and buffer: definitions only.
 use Prim.Native.Nat.{ℕ, _+_, _-_}
-use mathlib.Core.Bool.{Bool, true, false}
-use mathlib.Core.List.{List, [], _++_}
+use mathlib.Core.List.{List}
 use lib.Dec.{leb, ltb, eqb}
-use lib.ListN.{length, take, drop}
+use lib.ListN.{length}
 use Rattle.laws.specs.Pick.{pick}
-use Rattle.laws.specs.Parts.{part}
-use Rattle.machine.specs.Lent.{paste}
 use Rattle.machine.specs.Scan as Scan
 use Rattle.machine.specs.Scan.{request, ranDry, spoke}
+use Rattle.buffer.specs.Calls.{startOf, filled}
 use Rattle.crc.specs.declared.Algorithm.{Algorithm}
 use Rattle.rules.specs.declared.Stream.{Stream}
 use Rattle.extract.specs.declared.Extractor.{Extractor}
@@ -61,9 +59,9 @@ pushAnswerOf r n k =
     Pushes)
     Record
 
--- "If the piece doesn't fit behind the unread bytes they are first moved to the buffer's start."
-unfoldable pub placeOf : Extractor → ℕ → ℕ → ℕ
-placeOf r n k = pick (leb (r .end + k) n) (r .start) 0
+-- where the unread bytes start then
+abbrev pub placeOf : Extractor → ℕ → ℕ → ℕ
+placeOf r n k = startOf (r .start) (r .end) n k
 
 -- "A push always adds one unanswered push, an empty piece too."
 abbrev pub grown : Extractor → ℕ → ℕ → Extractor
@@ -92,7 +90,7 @@ pushedOf r n k = record { extractor = onAccepted (pushAnswerOf r n k) (grown r (
 -- as it was
 unfoldable pub bufferOf : Extractor → List ℕ → List ℕ → List ℕ
 bufferOf r buf piece =
-    onAccepted (pushAnswerOf r (length buf) (length piece)) (paste buf (placeOf r (length buf) (length piece)) (unread r buf ++ piece)) buf
+    onAccepted (pushAnswerOf r (length buf) (length piece)) (filled (r .start) (r .end) buf piece (placeOf r (length buf) (length piece))) buf
 
 -- A REQUEST: "Nothing unanswered: 8"; else the rules' request on the unread bytes
 
@@ -125,8 +123,3 @@ askedOf r buf =
     (record { extractor = r; answer = Quiet })
     (answeredOf r (request reader (r .stream) (unread r buf))))
     (record { extractor = r; answer = BadRecord })
-
--- A PART: "a stretch not wholly inside the buffer gives the empty part"
-
-unfoldable pub partOf : List ℕ → ℕ → ℕ → List ℕ
-partOf buf start n = pick (leb (start + n) (length buf)) (part buf start n) []

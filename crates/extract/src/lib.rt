@@ -1,24 +1,22 @@
 // The reader: document 01, "Search", "A request" and numbers 1 to 8; process/extract.rs in the Rust, its pool, `Arc` and fail levels left out.
-// The record goes in and comes back by value, the bytes lie in a buffer that the caller lends, and a unit is handed out as a part of it.
+// The record goes in and comes back by value, the bytes lie in a buffer that the caller lends, and a unit is handed out as a part of it (crate
+// buffer).
 ghost use mathlib.Core.Path.{_≡_};
-ghost use mathlib.Core.List.{_++_};
-ghost use Prim.Native.Nat.{_+_, _-_, _≤_, _<_};
+ghost use Prim.Native.Nat.{_+_, _<_};
 ghost use lib.Dec.{leb, eqb};
-ghost use lib.ListN.{length, take, drop};
-ghost use Rattle.laws.specs.Pick.{pick};
-ghost use Rattle.laws.specs.Parts.{part};
-ghost use Rattle.machine.specs.Lent.{paste};
+ghost use lib.ListN.{length};
 ghost use Rattle.machine.specs.Scan.{request as requestOf};
 ghost use Rattle.rules.specs.Request.{reader};
-ghost use Rattle.rules.specs.Units.{isMajor};
 ghost use Rattle.extract.specs.Record.{roomFits, recordFits, fitsOf, unread};
 ghost use Rattle.extract.specs.Fits.{Fits};
-ghost use Rattle.extract.specs.Calls.{openedOf, pushedOf, bufferOf, leftAt, dryAt, spokenAt, answeredOf, askedOf, partOf};
+ghost use Rattle.extract.specs.Calls.{openedOf, pushedOf, bufferOf, leftAt, dryAt, spokenAt, answeredOf, askedOf};
 
 mod step;
 
 use crate::step::Outcome;
 use crate::step::step;
+use buffer::Placed;
+use buffer::place;
 use crc::Algorithm;
 use kinds::BytePosition;
 use rules::Losses;
@@ -177,52 +175,9 @@ impl Extractor {
             },
         })
     }
-}
 
-// Moves the bytes from start to end to the buffer's start.
-fn to_front(buf: &mut [u8], start: usize, end: usize)
-    requires { ⌜ (start ≤ end) × (end ≤ length (now buf)) ⌝ }
-    ensures { λ _. ⌜ now (buf .exit) ≡ part (now (buf .entry)) start (end - start) ++ drop (end - start) (now (buf .entry)) ⌝ }
-{
-    let n = end - start;
-    let mut i = 0;
-    while i < n {
-        buf[i] = buf[start + i];
-        i += 1;
-    }
-}
-
-// Writes the piece at a place.
-fn write_at(buf: &mut [u8], at: usize, piece: &[u8])
-    requires { ⌜ at + length (now piece) ≤ length (now buf) ⌝ }
-    ensures { λ _. ⌜ now (buf .exit) ≡ paste (now (buf .entry)) at (now (piece .entry)) ⌝ }
-{
-    let mut i = 0;
-    while i < piece.len() {
-        buf[at + i] = piece[i];
-        i += 1;
-    }
-}
-
-// Puts the piece behind the unread bytes, which are moved to the buffer's start where it doesn't fit behind them; says where they start now.
-fn place(buf: &mut [u8], start: usize, end: usize, piece: &[u8]) -> usize
-    requires { ⌜ (start ≤ end) × ((end ≤ length (now buf)) × (end - start + length (now piece) ≤ length (now buf))) ⌝ }
-    ensures at { λ r. ⌜ r ≡ pick (leb (end + length (now (piece .entry))) (length (now (buf .entry)))) start 0 ⌝ }
-    ensures within { λ r. ⌜ r + (end - start) + length (now (piece .entry)) ≤ length (now (buf .entry)) ⌝ }
-    ensures holds { λ r. ⌜ now (buf .exit) ≡ paste (now (buf .entry)) r (part (now (buf .entry)) start (end - start) ++ now (piece .entry)) ⌝ }
-{
-    if piece.len() <= buf.len() - end {
-        write_at(buf, end, piece);
-        start
-    } else {
-        to_front(buf, start, end);
-        write_at(buf, end - start, piece);
-        0
-    }
-}
-
-impl Extractor {
-    // A piece for a record that fits: numbers 2, 3 and 4, then the piece behind the unread bytes.
+    // A piece for a record that fits: numbers 2, 3 and 4, then the piece behind the unread bytes. They stand in the buffer, so that no room is
+    // number 4.
     fn push_fitting(self, buf: &mut [u8], piece: &[u8]) -> Pushed
         requires { ⌜ Fits self (length (now buf)) ⌝ }
         ensures answer { λ r. ⌜ r ≡ pushedOf self (length (now (buf .entry))) (length (now (piece .entry))) ⌝ }
@@ -243,13 +198,12 @@ impl Extractor {
         let start = self.start;
         let end = self.end;
         let unread = end - start;
-        if buf.len() - unread < piece.len() {
+        let Placed::At(at) = place(buf, start, end, piece) else {
             return Pushed {
                 extractor: self,
                 answer: PushAnswer::Room,
             };
-        }
-        let at = place(buf, start, end, piece);
+        };
         let mut next = self;
         next.start = at;
         next.end = at + unread + piece.len();
@@ -275,37 +229,7 @@ impl Extractor {
         }
         self.push_fitting(buf, piece)
     }
-}
 
-// The part of the lent buffer that holds a unit: a stretch not wholly inside it gives the empty part.
-pub fn part(buf: &[u8], start: usize, n: usize) -> &[u8]
-    ensures { λ r. ⌜ now r ≡ partOf (now (buf .entry)) start n ⌝ }
-{
-    if start <= buf.len() {
-        if n <= buf.len() - start {
-            &buf[start..start + n]
-        } else {
-            &buf[..0]
-        }
-    } else {
-        &buf[..0]
-    }
-}
-
-// Does a unit begin with a major sync? By bytes 4 and 5; a unit too short to have them does not.
-pub fn is_major_sync(unit: &[u8]) -> bool
-    ensures { λ r. ⌜ r ≡ isMajor (now (unit .entry)) ⌝ }
-{
-    if unit.len() < 6 {
-        return false;
-    }
-    if unit[4] != 0xF8 {
-        return false;
-    }
-    if unit[5] == 0x72 { true } else { false }
-}
-
-impl Extractor {
     // The record where a request leaves it: the unread bytes start at `at`, and so many pushes are unanswered.
     fn left(self, pushes: u32, at: usize, stream: Stream) -> Extractor
         ensures { λ r. ⌜ r ≡ leftAt self pushes at stream ⌝ }

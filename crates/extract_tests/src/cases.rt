@@ -91,8 +91,8 @@ pub fn buf_extract(new: Extractor, buf: &mut Buffer) -> Check {
     let mut pattern = blank();
     fill(&mut pattern);
     let a = push_pattern(new, buf, &pattern);
-    let b = push_and_resync(a, buf, extract::part(&example, 0, 42));
-    let c = push(b, buf, extract::part(&example, 42, 78));
+    let b = push_and_resync(a, buf, buffer::part(&example, 0, 42));
+    let c = push(b, buf, buffer::part(&example, 42, 78));
     let first = c.next(buf);
     let d = first.extractor;
     let second = d.next(buf);
@@ -126,7 +126,7 @@ pub fn one_byte_fragments_preserve_a_major_sync_during_resync(
     let mut data = [0u8; 512];
     let n = put(&mut data, 0, &example);
     let m = put(&mut data, n, &[0, 0, 0, 0, 0, 0]);
-    let end = put(&mut data, m, extract::part(&example, 16, 104));
+    let end = put(&mut data, m, buffer::part(&example, 16, 104));
     let seen = in_pieces(new, buf, front(&data, end), 1);
     let mut check = Check::new();
     check = check.holds(seen.spoken == 0);
@@ -170,11 +170,11 @@ pub fn a_split_first_access_unit_keeps_its_timestamp(new: Extractor, buf: &mut B
 // The example's first 100 bytes with a bit of one turned over, and its units once more.
 fn with_a_damaged_byte(data: &mut Data, at: usize) -> usize {
     let example = EXAMPLE_DATA;
-    let n = put(data, 0, extract::part(&example, 0, 100));
+    let n = put(data, 0, buffer::part(&example, 0, 100));
     if at < 512 {
         data[at] = data[at] ^ 1;
     }
-    put(data, n, extract::part(&example, 16, 104))
+    put(data, n, buffer::part(&example, 16, 104))
 }
 
 pub fn a_rejected_candidate_does_not_stamp_the_next_frame(
@@ -211,7 +211,7 @@ fn first_unit(new: Extractor, buf: &mut Buffer, stream: &[u8], unit: &mut Data) 
 
 // A unit's first 31 bytes under a length of twice k, then the whole unit.
 fn under_a_length(data: &mut Data, major: &[u8], k: u8) -> usize {
-    let n = put(data, 0, extract::part(major, 0, 31));
+    let n = put(data, 0, buffer::part(major, 0, 31));
     data[0] = data[0] & 0xF0;
     data[1] = k;
     put(data, n, major)
@@ -289,7 +289,7 @@ pub fn invalid_major_sync_lengths_are_reported_and_allow_recovery(
 fn empty_minor() -> [u8; 20] {
     let example = EXAMPLE_DATA;
     let mut minor = [0u8; 20];
-    text::put(&mut minor, 0, extract::part(&example, 100, 20));
+    text::put(&mut minor, 0, buffer::part(&example, 100, 20));
     let whole = minor[0] ^ minor[1];
     minor[0] = minor[0] & 0xF0;
     minor[1] = 0;
@@ -304,7 +304,7 @@ pub fn invalid_locked_frame_length_cannot_emit_an_empty_frame(
     buf: &mut Buffer,
 ) -> Check {
     let example = EXAMPLE_DATA;
-    let major = extract::part(&example, 16, 84);
+    let major = buffer::part(&example, 16, 84);
     let invalid = empty_minor();
     let a = push(new, buf, major);
     let b = push(a, buf, &invalid);

@@ -62,17 +62,17 @@ pub fn put(data: &mut Data, at: usize, word: &[u8]) -> usize {
 
 // n bytes of a test's data, from a place on.
 pub fn stretch(data: &Data, at: usize, n: usize) -> &[u8] {
-    extract::part(data, at, n)
+    buffer::part(data, at, n)
 }
 
 // The first n bytes of a test's data.
 pub fn front(data: &Data, n: usize) -> &[u8] {
-    extract::part(data, 0, n)
+    buffer::part(data, 0, n)
 }
 
 // The unit's bytes.
 pub fn bytes_of(buf: &Buffer, unit: Unit, start: usize) -> &[u8] {
-    extract::part(buf, start, unit.length as usize)
+    buffer::part(buf, start, unit.length as usize)
 }
 
 // Does the unit hold the bytes that stand in the data at its offset?
@@ -80,7 +80,7 @@ fn is_faithful(data: &[u8], buf: &Buffer, unit: Unit, start: usize) -> bool {
     let offset = (unit.position.0 % 4294967296) as usize;
     check::same(
         bytes_of(buf, unit, start),
-        extract::part(data, offset, unit.length as usize),
+        buffer::part(data, offset, unit.length as usize),
     )
 }
 
@@ -192,7 +192,7 @@ pub fn in_pieces(new: Extractor, buf: &mut Buffer, data: &[u8], size: usize) -> 
     while turns > 0 && at < data.len() {
         let n = piece_length(size, at, data.len());
         let reader = seen.reader;
-        let pushed = push(reader, buf, extract::part(data, at, n));
+        let pushed = push(reader, buf, buffer::part(data, at, n));
         seen.reader = pushed;
         seen = all(seen, data, buf);
         at = std::num::wrapping_add_usize(at, n);

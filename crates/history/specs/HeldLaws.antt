@@ -9,7 +9,7 @@ use lib.Dec.{leb, ltb, eqb}
 use lib.ListN.{length, take, drop, length-append, length-take, length-drop}
 use lib.Seq.{drop-at, length-take-le, take-append-seam}
 use borrow.Author.Tests.{leb-true, leb-false, ltb-true, eqb-true, eqb-false, eq-eqb, ne-eqb}
-use Rattle.laws.specs.Pick.{pick, pick-holds}
+use Rattle.laws.specs.Pick.{pick}
 use Rattle.laws.specs.Parts.{part, length-part, drop-part}
 use Rattle.machine.specs.Step.{Step, dry, quiet, speak, Rests}
 use Rattle.machine.specs.Scan as Scan
@@ -31,6 +31,7 @@ use Rattle.laws.specs.First.{firstFrom}
 use Rattle.rules.specs.StepLaws.{step-shows}
 use Rattle.rules.specs.RulesLaws.{reader-laws}
 use Rattle.rules.specs.FitLaws.{Fit, fit-step, at, reader-counts}
+use Rattle.buffer.specs.Laws.{start-inside}
 use Rattle.extract.specs.declared.Extractor.{Extractor}
 use Rattle.extract.specs.declared.PushAnswer.{PushAnswer}
 use Rattle.extract.specs.declared.PushAnswer.the-variants.{Accepted, Record, Pushes, Total, Room}
@@ -79,11 +80,7 @@ module _ (h : Held) (p : List ℕ) (fit : Fits (h .extractor) (length (h .buffer
 
   -- the new stretch lies within the buffer
   place-inside : unreadOf r + k ≤ n → placeOf r n k + (unreadOf r + k) ≤ n
-  unfolding placeOf
-  place-inside room =
-      pick-holds (λ (a : ℕ). a + (unreadOf r + k) ≤ n) (leb (r .end + k) n) (r .start) 0
-      (λ y. let o = fit .itself .order in omega (arith, leb-true))
-      (λ y. omega arith)
+  place-inside = start-inside (r .start) (r .end) n k (fit .itself .order) (fit .inside)
 
   abbrev grownHeld : Held
   grownHeld = record { extractor = grown r (placeOf r n k) k; buffer = paste (h .buffer) (placeOf r n k) (unread r (h .buffer) ++ p) }

@@ -22,12 +22,13 @@ use Rattle.rules.specs.RulesLaws.{reader-laws}
 use Rattle.rules.specs.FitLaws.{at, reader-counts}
 use Rattle.rules.specs.Units.{IfUnit, Hands}
 use Rattle.rules.specs.OutcomeLaws.{step-hands}
+use Rattle.buffer.specs.Calls.{partOf}
 use Rattle.extract.specs.declared.Extractor.{Extractor}
 use Rattle.extract.specs.declared.Answer.{Answer}
 use Rattle.extract.specs.declared.Answer.the-variants.{Unit as AUnit, InvalidAccessUnitLength, ParityCheckFailed, InsufficientData, Quiet, Record as BadRecord}
 use Rattle.extract.specs.Record.{fitsOf, unreadOf, unread}
 use Rattle.extract.specs.Fits.{Fits, fits-when}
-use Rattle.extract.specs.Calls.{answerOf, answeredOf, askedOf, partOf}
+use Rattle.extract.specs.Calls.{answerOf, answeredOf, askedOf}
 use Rattle.history.specs.Held.{Held}
 use Rattle.history.specs.HeldLaws.{Left, leaves, left-length}
 

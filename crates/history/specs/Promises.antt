@@ -25,9 +25,10 @@ use Rattle.rules.specs.RestLaws.{rest-holds-at-most-8189}
 use Rattle.rules.specs.Units.{IfUnit, Promised, Follows as Behind, Indexed}
 use Rattle.rules.specs.StampLaws.{standing-lasts}
 use Rattle.rules.specs.HandedLaws.{units-stand, units-apart, units-numbered, new-stands}
+use Rattle.buffer.specs.Calls.{partOf}
 use Rattle.extract.specs.declared.Extractor.{Extractor}
 use Rattle.extract.specs.declared.Answer.the-variants.{Unit as AUnit}
-use Rattle.extract.specs.Calls.{askedOf, partOf}
+use Rattle.extract.specs.Calls.{askedOf}
 use Rattle.extract.specs.Record.{fitsOf, unreadOf, unread, errorsOf}
 use Rattle.extract.specs.Fits.{Fits, fits-when}
 use Rattle.history.specs.Held.{Held, calls, openedOn, view}

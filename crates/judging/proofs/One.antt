@@ -14,6 +14,7 @@ use Rattle.judging.proofs.search.kept.Reads as kept
 use Rattle.judging.proofs.search.stamp_at.Reads as stamp-at
 use Rattle.judging.proofs.search.candidate.Reads as candidate
 use Rattle.judging.proofs.unit.unit.Reads as unit
+use Rattle.judging.proofs.unit.is_major_sync.Reads as is-major-sync
 
 -- the code's answer back from its meaning
 abbrev found : Place → Found
@@ -49,3 +50,6 @@ candidate-one κs a r r′ e e′ p q = judged-one r r′ (p ∙ sym q)
 
 pub unit-one : (κs : _) (a : _) (r r′ : _) (e e′ : _) → unit.Post κs a r e → unit.Post κs a r′ e′ → r ≡ r′
 unit-one κs a r r′ e e′ p q = judged-one r r′ (p ∙ sym q)
+
+pub is-major-sync-one : (κs : _) (a : _) (r r′ : _) (e e′ : _) → is-major-sync.Post κs a r e → is-major-sync.Post κs a r′ e′ → r ≡ r′
+is-major-sync-one κs a r r′ e e′ p q = p ∙ sym q

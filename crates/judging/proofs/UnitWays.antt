@@ -4,7 +4,7 @@ use native.Mathlib.Omega.{arith}
 use native.Mathlib.Nat.{not-suc-le-zero}
 use native.Mathlib.Numerals.{sub-one}
 use mathlib.Core.Path.{_≡_, refl, sym, ap, ap₂, _∙_}
-use mathlib.Core.Bool.{Bool, true, false, _&&_}
+use mathlib.Core.Bool.{Bool, true, false, _&&_, and-false}
 use mathlib.Core.Option.{Option, none, some}
 use mathlib.Core.List.{List}
 use lib.Bits.{bitXor}
@@ -21,6 +21,7 @@ use Rattle.rules.specs.declared.Verdict.{Verdict}
 use Rattle.rules.specs.declared.Verdict.the-variants.{Lost, Short, Whole}
 use Rattle.rules.specs.Search.{syncLength, unitLength}
 use Rattle.rules.specs.Request.{End, directory, even, closing, body, unit}
+use Rattle.rules.specs.Units.{isMajor}
 use Rattle.rules.specs.BoundLaws.{syncLength-bounded, directory-bounded}
 use Rattle.judging.specs.declared.search.Length.{Length}
 use Rattle.judging.specs.declared.search.Length.the-variants.{Known, Missing as Unsaid}
@@ -188,3 +189,22 @@ module _ (k : ℕ) (u : List ℕ) where
 -- a sync's length, as it was answered, leaves at most 60 bytes to skip
 pub skip-bounded : (u : List ℕ) {r : Length} {m : ℕ} → lengthOf r ≡ ask syncLength u → r ≡ Known m → m ≤ 58
 skip-bounded u {r} {m} er q = syncLength-bounded u m (sym er ∙ ap lengthOf q) .1
+
+-- WHETHER A UNIT IS MAJOR: another byte 4 or 5 says no, however long the unit is
+module _ (u : List ℕ) where
+  pub minor-short : length u < 6 → false ≡ isMajor u
+  unfolding isMajor
+  minor-short l = rw (lt-leb 6 (length u) l)
+
+  pub minor-by-4 : (byteAt u 4 ≡ 0xF8 → ⊥) → false ≡ isMajor u
+  unfolding isMajor
+  minor-by-4 n = sym (rw (ne-eqb (byteAt u 4) 0xF8 n) (and-false (leb 6 (length u))))
+
+  module _ (e4 : byteAt u 4 ≡ 0xF8) where
+    pub minor-by-5 : (byteAt u 5 ≡ 0x72 → ⊥) → false ≡ isMajor u
+    unfolding isMajor
+    minor-by-5 n = sym (rw (eq-eqb (byteAt u 4) 0xF8 e4, ne-eqb (byteAt u 5) 0x72 n) (and-false (leb 6 (length u))))
+
+    pub major-by-both : byteAt u 5 ≡ 0x72 → 6 ≤ length u → true ≡ isMajor u
+    unfolding isMajor
+    major-by-both e5 l = rw (le-leb 6 (length u) l, eq-eqb (byteAt u 4) 0xF8 e4, eq-eqb (byteAt u 5) 0x72 e5)

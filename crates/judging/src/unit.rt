@@ -1,10 +1,11 @@
-// Document 01, "A request": the directory, the parity, the unit. Each function works on the unread bytes.
+// Document 01, "A request": the directory, the parity, the unit, each on the unread bytes; and whether a unit, handed out, is major.
 ghost use mathlib.Core.Path.{_≡_};
 ghost use mathlib.Core.Bool.{Bool};
 ghost use Prim.Native.Nat.{_+_, _*_, _≤_, _<_};
 ghost use lib.ListN.{length};
 ghost use Rattle.machine.specs.Ask.{ask, decide};
 ghost use Rattle.rules.specs.Request.{directory, even as evenOf, closing as closingOf, body as bodyOf, unit as unitOf};
+ghost use Rattle.rules.specs.Units.{isMajor};
 ghost use Rattle.judging.specs.Means.{judgedOf, walkOf, endOf};
 use crate::search::Judged;
 use crate::search::Length;
@@ -128,4 +129,17 @@ pub fn unit(count: u8, u: &[u8]) -> Judged
         return Judged::Missing;
     };
     body(u, count, true, m + 2)
+}
+
+// Does a unit begin with a major sync? By bytes 4 and 5; a unit too short to have them does not.
+pub fn is_major_sync(unit: &[u8]) -> bool
+    ensures { λ r. ⌜ r ≡ isMajor (now (unit .entry)) ⌝ }
+{
+    if unit.len() < 6 {
+        return false;
+    }
+    if unit[4] != 0xF8 {
+        return false;
+    }
+    if unit[5] == 0x72 { true } else { false }
 }

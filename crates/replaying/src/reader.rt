@@ -181,7 +181,7 @@ pub(crate) fn part(
     if lent.len() < room {
         return no_call(reader, at);
     }
-    let p = extract::part(&lent[first..room], n.value[0] as usize, n.value[1] as usize);
+    let p = buffer::part(&lent[first..room], n.value[0] as usize, n.value[1] as usize);
     let a = put_number(out, at, b"part ", p.len() as u64);
     let b = put(out, a, b" bytes ");
     let c = put_hex(out, b, adler(p), 8);

@@ -136,7 +136,7 @@ fn put_unit(out: &mut [u8], at: usize, u: Unit, bytes: &[u8]) -> usize {
 pub(crate) fn put_asked(out: &mut [u8], at: usize, a: Answer, lent: &[u8]) -> usize {
     match a {
         Answer::Unit { unit, start } => {
-            let bytes = extract::part(lent, start, unit.length as usize);
+            let bytes = buffer::part(lent, start, unit.length as usize);
             put_unit(out, at, unit, bytes)
         }
         Answer::InvalidAccessUnitLength { actual, minimum } => {

@@ -1,5 +1,7 @@
 -- `Extractor::push_fitting` makes the tests 2, 3 and 4 in their order; the new end lies within the buffer, so no sum wraps.
 use borrow.Author.Needs.{needs}
+use native.Mathlib.Omega.{arith}
+use Rattle.buffer.specs.Laws.{placed-inside}
 use Rattle.extract.proofs.PushWays.{push-pushes, push-total, push-room, push-accepted}
 use Rattle.extract.proofs.Extractor.push_fitting.Statement.{statement}
 use Rattle.extract.proofs.Extractor.push_fitting.Tie as tie
@@ -8,16 +10,18 @@ pub push-fitting-spec : {M : Type 1} → statement M
 push-fitting-spec =
     tie.close
     (tie.spec
-    (λ c. push-pushes _ _ _ (c .before .before .before .before .pre) (c .if1 .taken))
+    (λ c. push-pushes _ _ _ (search needs) (omega arith))
     (λ c. search needs)
-    (λ c. push-total _ _ _ (c .before .before .before .before .before .before .pre) (c .before .before .if1 .left) (c .if2 .taken))
+    (λ c. push-total _ _ _ (search needs) (omega arith) (omega arith))
     (λ c. search needs)
-    (λ c. search needs)
-    (λ c. push-room _ _ _ (c .before .before .before .before .before .before .before .pre) (c .before .before .before .if1 .left) (c .before .if2 .left) (c .if3 .taken))
     (λ c κs. search needs)
     (λ c. search needs)
     (λ c. search needs)
     (λ c. search needs)
+    (λ c. let p = c .before .before .before .before in push-room _ _ _ (search needs) (omega arith) (omega arith) (p .place .ensures .0) (p .place .ensures .1) (search needs))
+    (λ c. let p = c .before .before .before .before .before in let l = placed-inside _ _ _ _ (omega arith) (omega arith) (p .place .ensures .0) (c .before .at .given .1) in omega arith)
+    (λ c. let p = c .before .before .before .before .before in let l = placed-inside _ _ _ _ (omega arith) (omega arith) (p .place .ensures .0) (c .before .at .given .1) in omega arith)
     (λ c. search needs)
     (λ c. search needs)
-    (λ c. push-accepted _ _ _ (c .before .before .before .before .before .before .before .before .before .before .before .before .before .pre) (c .before .before .before .before .before .before .before .before .before .if1 .left) (c .before .before .before .before .before .before .before .if2 .left) (c .before .before .before .before .before .before .if3 .left) (c .before .before .before .before .place .ensures .0) (c .before .before .before .before .place .ensures .1 .1)))
+    (λ c. search needs)
+    (λ c. let p = c .before .before .before .before .before .before .before in push-accepted _ _ _ (search needs) (omega arith) (omega arith) (p .place .ensures .0) (p .place .ensures .1) (search needs)))

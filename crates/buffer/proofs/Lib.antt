@@ -1,0 +1,3 @@
+pub mod One
+mod Copies
+mod Ways

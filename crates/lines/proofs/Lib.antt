@@ -1,0 +1,3 @@
+mod Ways
+mod GatherWays
+pub mod One
