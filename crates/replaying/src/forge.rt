@@ -1,4 +1,5 @@
-// `forge FIELD VALUE` sets one field of a record, so that a script can show number 1 and the limits that no stream reaches.
+// `forge FIELD VALUE` sets one field of a record, so that a script can show number 1 and the limits that no stream reaches. A field goes by its
+// number in the list of names that its call reads.
 use crate::reader::Reader;
 use crate::words::low8;
 use crate::words::low32;
@@ -10,7 +11,6 @@ use levels::SubstreamDepth;
 use rules::Losses;
 use rules::Stream;
 use timing::HiresOutputTimingState;
-use window::Window;
 
 pub(crate) struct ForgedReader {
     pub good: bool,
@@ -22,9 +22,9 @@ pub(crate) struct ForgedTiming {
     pub timing: HiresOutputTimingState,
 }
 
-pub(crate) struct ForgedWindow {
+pub(crate) struct ForgedLevels {
     pub good: bool,
-    pub window: Window,
+    pub levels: Levels,
 }
 
 struct ForgedStream {
@@ -32,86 +32,91 @@ struct ForgedStream {
     stream: Stream,
 }
 
-fn forge_stream(stream: Stream, name: &[u8], n: u64) -> ForgedStream {
+fn forged_stream(stream: Stream) -> ForgedStream {
+    ForgedStream { good: true, stream }
+}
+
+// `consumed`, `frames`, `errors`, `substreams`, `locked`, `seen`
+fn forge_stream(stream: Stream, field: usize, n: u64) -> ForgedStream {
     let mut s = stream;
-    let mut good = true;
-    if check::same(name, b"consumed") {
-        let place = BytePosition(n);
-        s.consumed = place;
-    } else if check::same(name, b"frames") {
-        s.frames = n;
-    } else if check::same(name, b"errors") {
-        let losses = Losses { errors: n };
-        s.losses = losses;
-    } else if check::same(name, b"substreams") {
-        s.substreams = low8(n);
-    } else if check::same(name, b"locked") {
-        s.locked = n != 0;
-    } else if check::same(name, b"seen") {
-        s.seen = n != 0;
-    } else {
-        good = false;
-    }
-    ForgedStream { good, stream: s }
-}
-
-fn forge_extractor(e: Extractor, name: &[u8], n: u64) -> Extractor {
-    let mut x = e;
-    if check::same(name, b"start") {
-        x.start = n as usize;
-    } else if check::same(name, b"end") {
-        x.end = n as usize;
-    } else if check::same(name, b"accepted") {
-        x.accepted = n;
-    } else {
-        x.unanswered = low32(n);
-    }
-    x
-}
-
-fn of_extractor(name: &[u8]) -> bool {
-    if check::same(name, b"start") {
-        return true;
-    }
-    if check::same(name, b"end") {
-        return true;
-    }
-    if check::same(name, b"accepted") {
-        return true;
-    }
-    check::same(name, b"unanswered")
-}
-
-// A field of the reader's record, or the length of the buffer that it is lent.
-pub(crate) fn forge_reader(reader: Reader, name: &[u8], n: u64, most: usize) -> ForgedReader {
-    let e = reader.extractor;
-    let room = reader.room;
-    if check::same(name, b"buffer") {
-        if most < n as usize {
-            return ForgedReader {
-                good: false,
-                reader,
-            };
+    match field {
+        5 => {
+            let place = BytePosition(n);
+            s.consumed = place;
+            forged_stream(s)
         }
-        let longer = Reader {
-            room: n as usize,
-            extractor: e,
-        };
+        6 => {
+            s.frames = n;
+            forged_stream(s)
+        }
+        7 => {
+            let losses = Losses { errors: n };
+            s.losses = losses;
+            forged_stream(s)
+        }
+        8 => {
+            s.substreams = low8(n);
+            forged_stream(s)
+        }
+        9 => {
+            s.locked = n != 0;
+            forged_stream(s)
+        }
+        10 => {
+            s.seen = n != 0;
+            forged_stream(s)
+        }
+        _ => ForgedStream {
+            good: false,
+            stream,
+        },
+    }
+}
+
+// `start`, `end`, `accepted`, `unanswered`
+fn forge_extractor(e: Extractor, field: usize, n: u64) -> Extractor {
+    let mut x = e;
+    match field {
+        1 => {
+            x.start = n as usize;
+            x
+        }
+        2 => {
+            x.end = n as usize;
+            x
+        }
+        3 => {
+            x.accepted = n;
+            x
+        }
+        _ => {
+            x.unanswered = low32(n);
+            x
+        }
+    }
+}
+
+// The length of the buffer that the reader is lent.
+fn forge_room(reader: Reader, n: u64, most: usize) -> ForgedReader {
+    let extractor = reader.extractor;
+    let room = n as usize;
+    if most < room {
         return ForgedReader {
-            good: true,
-            reader: longer,
+            good: false,
+            reader,
         };
     }
-    if of_extractor(name) {
-        let extractor = forge_extractor(e, name, n);
-        let forged = Reader { room, extractor };
-        return ForgedReader {
-            good: true,
-            reader: forged,
-        };
+    ForgedReader {
+        good: true,
+        reader: Reader { room, extractor },
     }
+}
+
+// A field of what the rules know of the stream.
+fn forge_known(reader: Reader, field: usize, n: u64) -> ForgedReader {
+    let e = reader.extractor;
     let s = e.stream;
-    let f = forge_stream(s, name, n);
+    let f = forge_stream(s, field, n);
     let stream = f.stream;
     let extractor = Extractor {
         start: e.start,
@@ -120,26 +125,62 @@ pub(crate) fn forge_reader(reader: Reader, name: &[u8], n: u64, most: usize) -> 
         unanswered: e.unanswered,
         stream,
     };
-    let forged = Reader { room, extractor };
     ForgedReader {
         good: f.good,
-        reader: forged,
+        reader: Reader {
+            room: reader.room,
+            extractor,
+        },
     }
 }
 
-pub(crate) fn forge_timing(t: HiresOutputTimingState, name: &[u8], n: u64) -> ForgedTiming {
-    let mut x = t;
-    let mut good = true;
-    if check::same(name, b"state") {
-        x.state = low8(n);
-    } else if check::same(name, b"counter") {
-        x.counter = low8(n);
-    } else if check::same(name, b"bits") {
-        x.bits = low32(n);
-    } else {
-        good = false;
+// `buffer`, the four fields of the reader's own, or a field of the stream's
+pub(crate) fn forge_reader(reader: Reader, field: usize, n: u64, most: usize) -> ForgedReader {
+    let room = reader.room;
+    let e = reader.extractor;
+    match field {
+        0 => forge_room(reader, n, most),
+        1..=4 => ForgedReader {
+            good: true,
+            reader: Reader {
+                room,
+                extractor: forge_extractor(e, field, n),
+            },
+        },
+        _ => forge_known(reader, field, n),
     }
-    ForgedTiming { good, timing: x }
+}
+
+// `state`, `counter`, `bits`
+pub(crate) fn forge_timing(t: HiresOutputTimingState, field: usize, n: u64) -> ForgedTiming {
+    let mut x = t;
+    match field {
+        0 => {
+            x.state = low8(n);
+            ForgedTiming {
+                good: true,
+                timing: x,
+            }
+        }
+        1 => {
+            x.counter = low8(n);
+            ForgedTiming {
+                good: true,
+                timing: x,
+            }
+        }
+        2 => {
+            x.bits = low32(n);
+            ForgedTiming {
+                good: true,
+                timing: x,
+            }
+        }
+        _ => ForgedTiming {
+            good: false,
+            timing: t,
+        },
+    }
 }
 
 fn forge_depth(depth: [Depth; 5], k: usize, n: u64, stream: bool) -> [Depth; 5] {
@@ -176,54 +217,42 @@ fn forge_substream(substream: [SubstreamDepth; 4], i: usize, n: u64) -> [Substre
     all
 }
 
-fn forge_levels(l: Levels, name: &[u8], n: u64, k: usize) -> Levels {
+fn forged_levels(levels: Levels) -> ForgedLevels {
+    ForgedLevels { good: true, levels }
+}
+
+// `read`, `write`, or the depth of accumulator or substream k: `total`, `stream`, `substream`
+pub(crate) fn forge_levels(l: Levels, field: usize, n: u64, k: usize) -> ForgedLevels {
     let mut x = l;
     let depth = l.depth;
     let substream = l.substream;
-    if check::same(name, b"read") {
-        x.read = n as usize;
-    } else if check::same(name, b"write") {
-        x.write = n as usize;
-    } else if check::same(name, b"total") {
-        let d = forge_depth(depth, k, n, false);
-        x.depth = d;
-    } else if check::same(name, b"stream") {
-        let d = forge_depth(depth, k, n, true);
-        x.depth = d;
-    } else {
-        let s = forge_substream(substream, k, n);
-        x.substream = s;
-    }
-    x
-}
-
-fn of_window(name: &[u8]) -> bool {
-    if check::same(name, b"read") {
-        return true;
-    }
-    if check::same(name, b"write") {
-        return true;
-    }
-    if check::same(name, b"total") {
-        return true;
-    }
-    if check::same(name, b"stream") {
-        return true;
-    }
-    check::same(name, b"substream")
-}
-
-// A slot number, or the depth of accumulator or substream k.
-pub(crate) fn forge_window(w: Window, name: &[u8], n: u64, k: u64) -> ForgedWindow {
-    if of_window(name) {} else {
-        return ForgedWindow {
+    match field {
+        0 => {
+            x.read = n as usize;
+            forged_levels(x)
+        }
+        1 => {
+            x.write = n as usize;
+            forged_levels(x)
+        }
+        2 => {
+            let d = forge_depth(depth, k, n, false);
+            x.depth = d;
+            forged_levels(x)
+        }
+        3 => {
+            let d = forge_depth(depth, k, n, true);
+            x.depth = d;
+            forged_levels(x)
+        }
+        4 => {
+            let s = forge_substream(substream, k, n);
+            x.substream = s;
+            forged_levels(x)
+        }
+        _ => ForgedLevels {
             good: false,
-            window: w,
-        };
+            levels: l,
+        },
     }
-    let rings = w.rings;
-    let l = w.levels;
-    let levels = forge_levels(l, name, n, k as usize);
-    let window = Window { rings, levels };
-    ForgedWindow { good: true, window }
 }

@@ -3,6 +3,9 @@
 ghost use Prim.Native.Nat.{_≤_};
 use libc::STDOUT_FILENO;
 
+// How much of the lent slice is for text; what lies behind is for a line's bytes.
+pub(crate) const TEXT: usize = 65536;
+
 fn least(a: usize, b: usize) -> usize
     ensures { λ r. ⌜ (r ≤ a) × (r ≤ b) ⌝ }
 {
@@ -23,6 +26,14 @@ pub(crate) fn put(out: &mut [u8], at: usize, text: &[u8]) -> usize {
     at + n
 }
 
+pub(crate) fn put_byte(out: &mut [u8], at: usize, b: u8) -> usize {
+    if at < out.len() {
+        out[at] = b;
+        return at + 1;
+    }
+    at
+}
+
 pub(crate) fn put_decimal(out: &mut [u8], at: usize, n: u64) -> usize {
     let mut digits = [0u8; 20];
     let k = io::decimal(n, &mut digits);
@@ -35,29 +46,6 @@ pub(crate) fn put_hex(out: &mut [u8], at: usize, n: u64, width: usize) -> usize 
     put(out, at, &digits[..k])
 }
 
-pub(crate) fn put_number(out: &mut [u8], at: usize, label: &[u8], n: u64) -> usize {
-    let behind = put(out, at, label);
-    put_decimal(out, behind, n)
-}
-
-pub(crate) fn put_flag(out: &mut [u8], at: usize, label: &[u8], on: bool) -> usize {
-    let behind = put(out, at, label);
-    if on {
-        put(out, behind, b"1")
-    } else {
-        put(out, behind, b"0")
-    }
-}
-
-// One of two words.
-pub(crate) fn put_either(out: &mut [u8], at: usize, on: bool, yes: &[u8], no: &[u8]) -> usize {
-    if on {
-        put(out, at, yes)
-    } else {
-        put(out, at, no)
-    }
-}
-
 // Writes what was gathered, and begins again.
 pub(crate) fn flush(out: &[u8], at: usize) -> usize {
     let first: usize = 0;
@@ -67,7 +55,7 @@ pub(crate) fn flush(out: &[u8], at: usize) -> usize {
     0
 }
 
-// Makes room for the answer of one call, which is shorter than 4,096 bytes.
+// Makes room for the answer of one call, which is shorter than 4,096 bytes, before `TEXT`.
 pub(crate) fn with_room(out: &[u8], at: usize) -> usize {
     if at < 61440 { at } else { flush(out, at) }
 }
@@ -76,9 +64,9 @@ pub(crate) fn with_room(out: &[u8], at: usize) -> usize {
 pub(crate) fn put_line(out: &mut [u8], at: usize, line: &[u8]) -> usize {
     if line.len() < 4000 {
         let behind = put(out, at, line);
-        return put(out, behind, b"\n");
+        return put_byte(out, behind, b'\n');
     }
     let empty = flush(out, at);
     io::write_all(STDOUT_FILENO, line);
-    put(out, empty, b"\n")
+    put_byte(out, empty, b'\n')
 }

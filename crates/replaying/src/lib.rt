@@ -8,318 +8,213 @@ ghost use mathlib.Core.Path.{_≡_};
 ghost use lib.ListN.{length};
 
 mod forge; // fields set by hand
+mod form; // the text of an answer
 mod gather; // gathered output
-mod plain; // timestamp, check, cap
+mod outcome; // what a line comes to
+mod plain; // timestamp, check
 mod reader; // the reader's calls
-mod show; // records and answers as text
+mod script; // lines, as they are read
+mod show; // records and answers as parts of a text
 mod sums; // Adler-32
-mod watch; // start timing and the window
-mod words; // numbers and bytes of a line
+mod watch; // start timing, the window, caps
+mod words; // names, numbers and bytes of a line
 
+use crate::gather::TEXT;
 use crate::gather::flush;
-use crate::gather::with_room;
-use crate::plain::plain_call;
+use crate::outcome::Outcome;
+use crate::outcome::counted;
+use crate::outcome::no_call;
+use crate::outcome::put_outcome;
+use crate::plain::check_call;
+use crate::plain::other_line;
+use crate::plain::timestamp_call;
+use crate::reader::Read;
 use crate::reader::Reader;
+use crate::reader::push;
 use crate::reader::reader_call;
+use crate::script::Place;
+use crate::script::begin;
+use crate::script::line_at;
+use crate::script::next_line;
+use crate::script::turns_left;
+use crate::watch::cap_call;
 use crate::watch::timing_call;
 use crate::watch::window_call;
+use crate::words::Name;
+use crate::words::bytes_behind;
+use crate::words::named;
+use crate::words::numbers_from;
 use crc::Algorithm;
 use extract::Extractor;
 use kinds::BytePosition;
 use libc::STDERR_FILENO;
-use libc::STDIN_FILENO;
 use rules::Losses;
 use rules::Stream;
 use rules::Waiting;
 use timing::HiresOutputTimingState;
 use window::Window;
 
-// Which record a line's call takes.
-enum Kind {
-    Reader,
-    Timing,
-    Window,
-    Plain,
-}
-
-fn kind_of(call: &[u8]) -> Kind {
-    if call.len() < 4 {
-        return Kind::Plain;
-    }
-    match call[0] {
-        b'n' | b'p' | b'o' | b's' | b'f' => Kind::Reader,
-        b'w' => {
-            if check::same(call, b"window") {
-                Kind::Window
-            } else {
-                Kind::Plain
-            }
-        }
-        b't' => {
-            if check::same(call, b"timing") {
-                Kind::Timing
-            } else {
-                Kind::Plain
-            }
-        }
-        _ => Kind::Plain,
-    }
-}
-
-fn line_kind(line: &[u8]) -> Kind {
-    let w = text::next_word(line, 0, line.len());
-    let from = w.from;
-    let to = w.to;
-    kind_of(&line[from..to])
-}
-
-// All that is kept from call to call, and the place of the gathered output.
-struct Session {
+// The records that are kept from call to call.
+struct Records {
     reader: Reader,
     timing: HiresOutputTimingState,
     window: Window,
+}
+
+// What a line leaves, and what comes of it.
+struct Done {
+    records: Records,
+    outcome: Outcome,
+}
+
+// The records, how many lines were no call, and the place of the gathered output.
+struct Session {
+    records: Records,
     refused: u64,
     at: usize,
-    used: usize,
 }
 
-fn refuse(line: &[u8]) {
-    io::write_all(STDERR_FILENO, b"replay: no call: ");
-    io::write_all(STDERR_FILENO, line);
-    io::write_all(STDERR_FILENO, b"\n");
+// The call that a line's first word names.
+fn name_of(line: &[u8]) -> Name {
+    named(
+        line,
+        0,
+        b"next open show part forge push timing window cap timestamp check",
+    )
 }
 
-fn counted(refused: u64, good: bool, line: &[u8]) -> u64 {
-    if good {
-        return refused;
+// Where the bytes of a line begin, if its call takes some: behind the name of `push` and `timestamp`, behind the three numbers of `check`.
+fn bytes_from(line: &[u8], name: Name) -> usize {
+    let number = name.number;
+    match number {
+        5 | 9 => name.to,
+        10 => {
+            let n = numbers_from(line, name.to, 3);
+            n.to
+        }
+        _ => line.len(),
     }
-    refuse(line);
-    std::num::wrapping_add_u64(refused, 1)
 }
 
-fn reader_line(
-    session: Session,
-    line: &[u8],
-    lent: &mut [u8],
-    bytes: &mut [u8],
-    out: &mut [u8],
-    at: usize,
-) -> Session {
-    let before = session.reader;
-    let r = reader_call(before, line, lent, bytes, out, at);
-    let after = r.reader;
-    let mut next = session;
-    next.reader = after;
-    next.at = r.at;
-    next.refused = counted(session.refused, r.good, line);
-    next
+fn with_reader(records: Records, r: Read) -> Done {
+    let reader = r.reader;
+    let outcome = r.outcome;
+    let mut next = records;
+    next.reader = reader;
+    Done {
+        records: next,
+        outcome,
+    }
 }
 
-fn timing_line(session: Session, line: &[u8], out: &mut [u8], at: usize) -> Session {
-    let before = session.timing;
-    let t = timing_call(before, line, out, at);
-    let after = t.timing;
-    let mut next = session;
-    next.timing = after;
-    next.at = t.at;
-    next.refused = counted(session.refused, t.good, line);
-    next
+fn timing_line(records: Records, line: &[u8], from: usize) -> Done {
+    let before = records.timing;
+    let t = timing_call(before, line, from);
+    let timing = t.timing;
+    let outcome = t.outcome;
+    let mut next = records;
+    next.timing = timing;
+    Done {
+        records: next,
+        outcome,
+    }
 }
 
-fn window_line(session: Session, line: &[u8], out: &mut [u8], at: usize) -> Session {
-    let before = session.window;
-    let w = window_call(before, line, out, at);
-    let after = w.window;
-    let mut next = session;
-    next.window = after;
-    next.at = w.at;
-    next.refused = counted(session.refused, w.good, line);
-    next
+fn window_line(records: Records, line: &[u8], from: usize) -> Done {
+    let before = records.window;
+    let w = window_call(before, line, from);
+    let window = w.window;
+    let outcome = w.outcome;
+    let mut next = records;
+    next.window = window;
+    Done {
+        records: next,
+        outcome,
+    }
 }
 
-fn plain_line(
-    session: Session,
-    line: &[u8],
-    bytes: &mut [u8],
-    out: &mut [u8],
-    at: usize,
-) -> Session {
-    let p = plain_call(line, bytes, out, at);
-    let mut next = session;
-    next.at = p.at;
-    next.refused = counted(session.refused, p.good, line);
-    next
+// A line that no record takes part in.
+fn plain_line(name: Name, line: &[u8], piece: &[u8]) -> Outcome {
+    let number = name.number;
+    match number {
+        8 => cap_call(line, name.to),
+        9 => timestamp_call(piece),
+        10 => check_call(line, name.to, piece),
+        _ => other_line(line),
+    }
+}
+
+// `push`, the one call that changes the buffer.
+fn push_line(records: Records, lent: &mut [u8], piece: &[u8]) -> Done {
+    let reader = records.reader;
+    with_reader(records, push(reader, lent, piece))
+}
+
+fn reader_line(records: Records, name: Name, line: &[u8], lent: &[u8]) -> Done {
+    let reader = records.reader;
+    with_reader(records, reader_call(reader, name, line, lent))
+}
+
+// Every call but `push`.
+fn asked(records: Records, name: Name, line: &[u8], lent: &[u8], piece: &[u8]) -> Done {
+    let number = name.number;
+    match number {
+        0..=4 => reader_line(records, name, line, lent),
+        6 => timing_line(records, line, name.to),
+        7 => window_line(records, line, name.to),
+        _ => Done {
+            records,
+            outcome: plain_line(name, line, piece),
+        },
+    }
+}
+
+// The call of a line. Its bytes go behind the gathered text.
+fn run_call(records: Records, line: &[u8], lent: &mut [u8], out: &mut [u8]) -> Done {
+    let name = name_of(line);
+    let h = bytes_behind(line, bytes_from(line, name), out, TEXT);
+    if h.good {} else {
+        return Done {
+            records,
+            outcome: no_call(),
+        };
+    }
+    let piece = buffer::part(out, TEXT, h.count);
+    if name.number == 5 {
+        return push_line(records, lent, piece);
+    }
+    asked(records, name, line, lent, piece)
 }
 
 // One line of the script.
 fn run_line(
     session: Session,
-    line: &[u8],
-    lent: &mut [u8],
-    bytes: &mut [u8],
-    out: &mut [u8],
-) -> Session {
-    let at = with_room(out, session.at);
-    match line_kind(line) {
-        Kind::Reader => reader_line(session, line, lent, bytes, out, at),
-        Kind::Timing => timing_line(session, line, out, at),
-        Kind::Window => window_line(session, line, out, at),
-        Kind::Plain => plain_line(session, line, bytes, out, at),
-    }
-}
-
-// Runs the lines that have ended; `used` is where the rest begins.
-fn run_lines(
-    session: Session,
     input: &[u8],
+    place: Place,
     lent: &mut [u8],
-    bytes: &mut [u8],
     out: &mut [u8],
 ) -> Session {
-    let mut next = session;
-    let mut used: usize = 0;
-    while used < input.len() {
-        let end = text::line_end(input, used);
-        if end == input.len() {
-            break;
-        }
-        let behind = end + 1;
-        let line = &input[used..end];
-        next = run_line(next, line, lent, bytes, out);
-        used = behind;
-    }
-    next.used = used;
-    next
-}
-
-// Moves the bytes between two places to the front: how many they are.
-fn keep_rest(input: &mut [u8], from: usize, to: usize) -> usize {
-    if input.len() < to {
-        return 0;
-    }
-    if to < from {
-        return 0;
-    }
-    let n = to - from;
-    let mut i = 0;
-    while i < n {
-        input[i] = input[from + i];
-        i += 1;
-    }
-    n
-}
-
-// One read: the lines that it ends are run. `have` is how many bytes of a line without an end stand at the front.
-struct Turn {
-    go: bool,
-    have: usize,
-    session: Session,
-}
-
-fn stop(session: Session) -> Turn {
-    Turn {
-        go: false,
-        have: 0,
-        session,
+    let line = line_at(input, place);
+    let before = session.records;
+    let d = run_call(before, line, lent, out);
+    let records = d.records;
+    let outcome = d.outcome;
+    Session {
+        records,
+        refused: counted(session.refused, outcome),
+        at: put_outcome(out, session.at, outcome, line),
     }
 }
 
-// Runs the lines that end within the first n bytes, and moves the rest to the front; `go` is whether more may arrive.
-fn run_on(
-    session: Session,
-    n: usize,
-    go: bool,
-    input: &mut [u8],
-    lent: &mut [u8],
-    bytes: &mut [u8],
-    out: &mut [u8],
-) -> Turn {
-    let first: usize = 0;
-    if input.len() < n {
-        return stop(session);
-    }
-    let after = run_lines(session, &input[first..n], lent, bytes, out);
-    let rest = keep_rest(input, after.used, n);
-    Turn {
-        go,
-        have: rest,
-        session: after,
-    }
-}
-
-// Ends the line that stands at the front.
-fn end_line(input: &mut [u8], have: usize) {
-    if have < input.len() {
-        input[have] = 10;
-    }
-}
-
-// Nothing more arrives: what is left is a line too.
-fn last_line(
-    session: Session,
-    have: usize,
-    input: &mut [u8],
-    lent: &mut [u8],
-    bytes: &mut [u8],
-    out: &mut [u8],
-) -> Turn {
-    end_line(input, have);
-    let n = std::num::wrapping_add_usize(have, 1);
-    run_on(session, n, false, input, lent, bytes, out)
-}
-
-// One read behind the bytes that are there: how many came.
-fn read_more(input: &mut [u8], have: usize) -> usize {
-    if input.len() <= have {
-        return 0;
-    }
-    let got = libc::read(STDIN_FILENO, &mut input[have..]);
-    io::count(got, input)
-}
-
-fn take_turn(
-    session: Session,
-    have: usize,
-    input: &mut [u8],
-    lent: &mut [u8],
-    bytes: &mut [u8],
-    out: &mut [u8],
-) -> Turn {
-    if input.len() <= have {
-        io::write_all(
-            STDERR_FILENO,
-            b"replay: a line of more than 262,143 bytes: stopped\n",
-        );
-        return stop(session);
-    }
-    let more = read_more(input, have);
-    if more == 0 {
-        return last_line(session, have, input, lent, bytes, out);
-    }
-    let n = std::num::wrapping_add_usize(have, more);
-    run_on(session, n, true, input, lent, bytes, out)
-}
-
-// Nothing says that a script ends, so the turns are counted down from a number that no run uses up.
-fn run(
-    session: Session,
-    input: &mut [u8],
-    lent: &mut [u8],
-    bytes: &mut [u8],
-    out: &mut [u8],
-) -> Session {
+// Nothing says that a script ends, so the lines are counted down from a number that no run uses up.
+fn run(session: Session, input: &mut [u8], lent: &mut [u8], out: &mut [u8]) -> Session {
     let mut now = session;
-    let mut have: usize = 0;
+    let mut place = begin();
     let mut turns = u64::MAX;
     while turns > 0 {
-        let t = take_turn(now, have, input, lent, bytes, out);
-        let after = t.session;
-        now = after;
-        have = t.have;
-        if t.go {} else {
-            break;
-        }
-        turns -= 1;
+        place = next_line(input, place);
+        turns = turns_left(turns, place.ended);
+        now = run_line(now, input, place, lent, out);
     }
     now
 }
@@ -347,17 +242,11 @@ fn lines() -> [u8; 262144]
     [0; 262144]
 }
 
-// The bytes that a line writes.
-fn room() -> [u8; 131072]
-    ensures { λ r. ⌜ 131072 ≡ length r ⌝ }
+// The gathered text, and behind it the bytes that a line writes.
+fn room() -> [u8; 196608]
+    ensures { λ r. ⌜ 196608 ≡ length r ⌝ }
 {
-    [0; 131072]
-}
-
-// A run over a space of its own.
-fn run_over(session: Session, input: &mut [u8], bytes: &mut [u8], out: &mut [u8]) -> Session {
-    let mut lent = space();
-    run(session, input, &mut lent, bytes, out)
+    [0; 196608]
 }
 
 // A script begins with an opened reader over 8,192 bytes, a fresh timing record and a fresh window.
@@ -385,21 +274,32 @@ fn fresh() -> Session {
     };
     let timing = HiresOutputTimingState::fresh();
     let window = Window::fresh();
-    Session {
+    let records = Records {
         reader,
         timing,
         window,
+    };
+    Session {
+        records,
         refused: 0,
         at: 0,
-        used: 0,
     }
+}
+
+fn run_all(input: &mut [u8], lent: &mut [u8], out: &mut [u8]) {
+    let after = run(fresh(), input, lent, out);
+    finish(after, out);
+}
+
+// A run over a space of its own.
+fn run_over(input: &mut [u8], out: &mut [u8]) {
+    let mut lent = space();
+    run_all(input, &mut lent, out);
 }
 
 // Replays standard input.
 pub fn replay() {
     let mut input = lines();
-    let mut bytes = room();
-    let mut out = io::large_buffer();
-    let after = run_over(fresh(), &mut input, &mut bytes, &mut out);
-    finish(after, &out);
+    let mut out = room();
+    run_over(&mut input, &mut out);
 }

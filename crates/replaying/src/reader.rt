@@ -1,15 +1,26 @@
 // The calls of a reader: `open`, `push`, `next`, `show`, `part`, `forge`.
 use crate::forge::forge_reader;
-use crate::gather::put;
-use crate::gather::put_hex;
-use crate::gather::put_number;
-use crate::show::put_asked;
-use crate::show::put_pushed;
-use crate::show::put_reader;
+use crate::form::FORGED;
+use crate::form::OPEN;
+use crate::form::PART;
+use crate::form::Part;
+use crate::form::SHOW;
+use crate::form::made;
+use crate::form::nothing;
+use crate::outcome::Outcome;
+use crate::outcome::answered_by;
+use crate::outcome::no_call;
+use crate::outcome::short_answer;
+use crate::show::Head;
+use crate::show::alone;
+use crate::show::asked_head;
+use crate::show::pushed_head;
+use crate::show::reader_parts;
 use crate::sums::adler;
+use crate::words::Name;
 use crate::words::Numbers;
-use crate::words::bytes_at;
 use crate::words::low16;
+use crate::words::named;
 use crate::words::numbers_from;
 use crc::Algorithm;
 use extract::Extractor;
@@ -21,30 +32,24 @@ pub(crate) struct Reader {
     pub extractor: Extractor,
 }
 
-// What a call leaves: the reader, and whether the line was a call.
+// What a call leaves: the reader, and what comes of it.
 pub(crate) struct Read {
     pub reader: Reader,
-    pub good: bool,
-    pub at: usize,
+    pub outcome: Outcome,
 }
 
-fn no_call(reader: Reader, at: usize) -> Read {
+fn refused(reader: Reader) -> Read {
     Read {
         reader,
-        good: false,
-        at,
+        outcome: no_call(),
     }
 }
 
-// The call was answered; its line ends here.
-fn answered(reader: Reader, out: &mut [u8], at: usize) -> Read {
+fn answered(reader: Reader, h: Head) -> Read {
     let e = reader.extractor;
-    let a = put_reader(out, at, e);
-    let b = put(out, a, b"\n");
     Read {
         reader,
-        good: true,
-        at: b,
+        outcome: answered_by(reader_parts(h, e)),
     }
 }
 
@@ -60,193 +65,136 @@ fn check_of(n: Numbers) -> Algorithm {
     }
 }
 
+// The first `room` bytes of the space.
+fn front(lent: &[u8], room: usize) -> &[u8] {
+    buffer::part(lent, 0, room)
+}
+
+fn opened(reader: Reader, room: usize, o: Opened) -> Read {
+    match o {
+        Opened::Open(extractor) => answered(Reader { room, extractor }, alone(made(OPEN, 0, 0, 0))),
+        Opened::Refused => Read {
+            reader,
+            outcome: short_answer(made(OPEN, 1, 0, 0), nothing()),
+        },
+    }
+}
+
 // `open LENGTH [POLY INIT ZEROS]`
-pub(crate) fn open(
-    reader: Reader,
-    line: &[u8],
-    from: usize,
-    lent: &[u8],
-    out: &mut [u8],
-    at: usize,
-) -> Read {
-    let n = numbers_from(line, from);
+fn open(reader: Reader, n: Numbers, lent: &[u8]) -> Read {
+    let room = n.value[0] as usize;
     if n.good {} else {
-        return no_call(reader, at);
+        return refused(reader);
     }
     if n.count == 0 {
-        return no_call(reader, at);
+        return refused(reader);
     }
-    let room = n.value[0] as usize;
-    let first: usize = 0;
     if lent.len() < room {
-        return no_call(reader, at);
+        return refused(reader);
     }
-    match Extractor::open(&lent[first..room], check_of(n)) {
-        Opened::Open(extractor) => {
-            let a = put(out, at, b"open 0");
-            answered(Reader { room, extractor }, out, a)
-        }
-        Opened::Refused => {
-            let a = put(out, at, b"open 1\n");
-            Read {
-                reader,
-                good: true,
-                at: a,
-            }
-        }
-    }
+    opened(
+        reader,
+        room,
+        Extractor::open(front(lent, room), check_of(n)),
+    )
 }
 
 // `push BYTES`
-pub(crate) fn push(
-    reader: Reader,
-    line: &[u8],
-    from: usize,
-    lent: &mut [u8],
-    bytes: &mut [u8],
-    out: &mut [u8],
-    at: usize,
-) -> Read {
-    let h = bytes_at(line, from, bytes);
-    let n = h.count;
-    if h.good {} else {
-        return no_call(reader, at);
-    }
+pub(crate) fn push(reader: Reader, lent: &mut [u8], piece: &[u8]) -> Read {
     let room = reader.room;
     let first: usize = 0;
     if lent.len() < room {
-        return no_call(reader, at);
+        return refused(reader);
     }
     let e = reader.extractor;
-    let pushed = e.push_bytes(&mut lent[first..room], &bytes[..n]);
+    let pushed = e.push_bytes(&mut lent[first..room], piece);
     let answer = pushed.answer;
     let extractor = pushed.extractor;
-    let a = put_pushed(out, at, answer);
-    answered(Reader { room, extractor }, out, a)
+    answered(Reader { room, extractor }, pushed_head(answer))
 }
 
 // `next`
-pub(crate) fn next(reader: Reader, lent: &[u8], out: &mut [u8], at: usize) -> Read {
+fn next(reader: Reader, lent: &[u8]) -> Read {
     let room = reader.room;
-    let first: usize = 0;
-    if lent.len() < room {
-        return no_call(reader, at);
-    }
     let e = reader.extractor;
-    let asked = e.next(&lent[first..room]);
+    let buffer = front(lent, room);
+    let asked = e.next(buffer);
     let answer = asked.answer;
     let extractor = asked.extractor;
-    let a = put_asked(out, at, answer, &lent[first..room]);
-    answered(Reader { room, extractor }, out, a)
-}
-
-fn put_stretch(out: &mut [u8], at: usize, e: Extractor, room: usize) -> usize {
-    let a = put_number(out, at, b"show start ", e.start as u64);
-    let b = put_number(out, a, b" end ", e.end as u64);
-    let c = put_number(out, b, b" buffer ", room as u64);
-    put(out, c, b" holds ")
+    answered(Reader { room, extractor }, asked_head(answer, buffer))
 }
 
 // `show`: where the unread bytes stand, and the sum of the whole buffer
-pub(crate) fn show(reader: Reader, lent: &[u8], out: &mut [u8], at: usize) -> Read {
+fn show(reader: Reader, lent: &[u8]) -> Read {
     let room = reader.room;
-    let first: usize = 0;
-    if lent.len() < room {
-        return no_call(reader, at);
-    }
     let e = reader.extractor;
-    let a = put_stretch(out, at, e, room);
-    let b = put_hex(out, a, adler(&lent[first..room]), 8);
-    answered(reader, out, b)
+    let sum = adler(front(lent, room));
+    let p = Part {
+        form: SHOW,
+        value: [
+            e.start as u64,
+            e.end as u64,
+            room as u64,
+            sum,
+            0,
+            0,
+            0,
+            0,
+            0,
+            0,
+            0,
+            0,
+        ],
+    };
+    answered(reader, alone(p))
+}
+
+fn part_outcome(bytes: &[u8]) -> Outcome {
+    short_answer(made(PART, bytes.len() as u64, adler(bytes), 0), nothing())
 }
 
 // `part START LENGTH`: the part of the lent buffer
-pub(crate) fn part(
-    reader: Reader,
-    line: &[u8],
-    from: usize,
-    lent: &[u8],
-    out: &mut [u8],
-    at: usize,
-) -> Read {
-    let n = numbers_from(line, from);
+fn part_of(reader: Reader, n: Numbers, lent: &[u8]) -> Read {
     let room = reader.room;
-    let first: usize = 0;
     if n.good {} else {
-        return no_call(reader, at);
+        return refused(reader);
     }
     if n.count != 2 {
-        return no_call(reader, at);
+        return refused(reader);
     }
-    if lent.len() < room {
-        return no_call(reader, at);
-    }
-    let p = buffer::part(&lent[first..room], n.value[0] as usize, n.value[1] as usize);
-    let a = put_number(out, at, b"part ", p.len() as u64);
-    let b = put(out, a, b" bytes ");
-    let c = put_hex(out, b, adler(p), 8);
-    let d = put(out, c, b"\n");
+    let bytes = buffer::part(front(lent, room), n.value[0] as usize, n.value[1] as usize);
     Read {
         reader,
-        good: true,
-        at: d,
+        outcome: part_outcome(bytes),
     }
 }
 
 // `forge FIELD VALUE`
-pub(crate) fn forge(
-    reader: Reader,
-    line: &[u8],
-    from: usize,
-    lent: &[u8],
-    out: &mut [u8],
-    at: usize,
-) -> Read {
-    let w = text::next_word(line, from, line.len());
-    let begin = w.from;
-    let to = w.to;
-    let n = numbers_from(line, to);
-    let f = forge_reader(reader, &line[begin..to], n.value[0], lent.len());
+fn forge(reader: Reader, line: &[u8], from: usize, most: usize) -> Read {
+    let field = named(
+        line,
+        from,
+        b"buffer start end accepted unanswered consumed frames errors substreams locked seen",
+    );
+    let n = numbers_from(line, field.to, 16);
+    let f = forge_reader(reader, field.number, n.value[0], most);
     let next = f.reader;
     if n.good {
         if f.good {
-            let a = put(out, at, b"forged");
-            return answered(next, out, a);
+            return answered(next, alone(made(FORGED, 0, 0, 0)));
         }
     }
-    no_call(reader, at)
+    refused(reader)
 }
 
-// A line whose first word names a call of the reader.
-pub(crate) fn reader_call(
-    reader: Reader,
-    line: &[u8],
-    lent: &mut [u8],
-    bytes: &mut [u8],
-    out: &mut [u8],
-    at: usize,
-) -> Read {
-    let w = text::next_word(line, 0, line.len());
-    let begin = w.from;
-    let to = w.to;
-    let call = &line[begin..to];
-    if check::same(call, b"next") {
-        return next(reader, lent, out, at);
+// A call of the reader's that changes no byte of the buffer: `next`, `open`, `show`, `part` or `forge`, in this order.
+pub(crate) fn reader_call(reader: Reader, name: Name, line: &[u8], lent: &[u8]) -> Read {
+    let number = name.number;
+    match number {
+        0 => next(reader, lent),
+        1 => open(reader, numbers_from(line, name.to, 16), lent),
+        2 => show(reader, lent),
+        3 => part_of(reader, numbers_from(line, name.to, 16), lent),
+        _ => forge(reader, line, name.to, lent.len()),
     }
-    if check::same(call, b"push") {
-        return push(reader, line, to, lent, bytes, out, at);
-    }
-    if check::same(call, b"open") {
-        return open(reader, line, to, lent, out, at);
-    }
-    if check::same(call, b"show") {
-        return show(reader, lent, out, at);
-    }
-    if check::same(call, b"part") {
-        return part(reader, line, to, lent, out, at);
-    }
-    if check::same(call, b"forge") {
-        return forge(reader, line, to, lent, out, at);
-    }
-    no_call(reader, at)
 }

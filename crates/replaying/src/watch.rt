@@ -1,16 +1,26 @@
-// The calls of start timing and of the depth window: `timing new|step|branch|forge`, `window new|step|restart|forge`, `cap fba|fbb`.
+// The calls of start timing and of the depth window: `timing step|branch|new|forge`, `window step|restart|new|forge`, `cap fba|fbb`.
+use crate::forge::forge_levels;
 use crate::forge::forge_timing;
-use crate::forge::forge_window;
-use crate::gather::put;
-use crate::gather::put_number;
-use crate::show::put_depths;
-use crate::show::put_levels;
-use crate::show::put_timed;
-use crate::show::put_timing;
-use crate::show::put_underrun;
-use crate::show::put_window_answer;
+use crate::form::CAP;
+use crate::form::Part;
+use crate::form::TIMING_FORGED;
+use crate::form::WINDOW;
+use crate::form::WINDOW_FORGED;
+use crate::form::made;
+use crate::form::nothing;
+use crate::outcome::Outcome;
+use crate::outcome::answered_by;
+use crate::outcome::no_call;
+use crate::outcome::short_answer;
+use crate::show::report_part;
+use crate::show::timed_part;
+use crate::show::timing_parts;
+use crate::show::window_part;
+use crate::show::window_parts;
+use crate::words::Numbers;
 use crate::words::low8;
 use crate::words::low32;
+use crate::words::named;
 use crate::words::numbers_from;
 use byte_caps::Cap;
 use kinds::SampleTime;
@@ -22,134 +32,98 @@ use window::Window;
 
 pub(crate) struct Timed {
     pub timing: HiresOutputTimingState,
-    pub good: bool,
-    pub at: usize,
+    pub outcome: Outcome,
 }
 
 pub(crate) struct Windowed {
     pub window: Window,
-    pub good: bool,
-    pub at: usize,
+    pub outcome: Outcome,
 }
 
-fn timed_line(u: Updated, out: &mut [u8], at: usize) -> Timed {
+fn untimed(timing: HiresOutputTimingState) -> Timed {
+    Timed {
+        timing,
+        outcome: no_call(),
+    }
+}
+
+fn timed_line(timing: HiresOutputTimingState, answer: Part) -> Timed {
+    Timed {
+        timing,
+        outcome: answered_by(timing_parts(answer, timing)),
+    }
+}
+
+fn timed_answer(u: Updated) -> Timed {
     let answer = u.answer;
     let next = u.next;
-    let a = put_timed(out, at, answer);
-    let b = put_timing(out, a, next);
-    let c = put(out, b, b"\n");
-    Timed {
-        timing: next,
-        good: true,
-        at: c,
-    }
+    timed_line(next, timed_part(answer))
 }
 
 // `timing step BIT UNIT SAMPLES OUTPUT`
-fn timing_step(
-    t: HiresOutputTimingState,
-    line: &[u8],
-    from: usize,
-    out: &mut [u8],
-    at: usize,
-) -> Timed {
-    let n = numbers_from(line, from);
-    let mut good = n.good;
-    if n.count != 4 {
-        good = false;
+fn timing_step(t: HiresOutputTimingState, n: Numbers) -> Timed {
+    if n.good {} else {
+        return untimed(t);
     }
-    if good {} else {
-        return Timed {
-            timing: t,
-            good: false,
-            at,
-        };
+    if n.count != 4 {
+        return untimed(t);
     }
     let ctx = TimingContext {
         unit: n.value[1],
         samples: n.value[2],
         output: n.value[3],
     };
-    timed_line(t.update(ctx, n.value[0] != 0), out, at)
+    timed_answer(t.update(ctx, n.value[0] != 0))
 }
 
-// A line whose first word is `timing`.
-pub(crate) fn timing_call(
-    t: HiresOutputTimingState,
-    line: &[u8],
-    out: &mut [u8],
-    at: usize,
-) -> Timed {
-    let name = text::next_word(line, 0, line.len());
-    let w = text::next_word(line, name.to, line.len());
-    let begin = w.from;
-    let to = w.to;
-    let call = &line[begin..to];
-    if check::same(call, b"step") {
-        return timing_step(t, line, to, out, at);
-    }
-    if check::same(call, b"branch") {
-        return timed_line(t.reset_for_branch(), out, at);
-    }
-    if check::same(call, b"new") {
-        let next = HiresOutputTimingState::fresh();
-        let answer = timing::Answer::Nothing;
-        return timed_line(Updated { next, answer }, out, at);
-    }
-    if check::same(call, b"forge") {
-        return timing_forge(t, line, to, out, at);
-    }
-    Timed {
-        timing: t,
-        good: false,
-        at,
-    }
+// `timing new`
+fn timing_new() -> Timed {
+    let next = HiresOutputTimingState::fresh();
+    let answer = timing::Answer::Nothing;
+    timed_answer(Updated { next, answer })
 }
 
 // `timing forge FIELD VALUE`
-fn timing_forge(
-    t: HiresOutputTimingState,
-    line: &[u8],
-    from: usize,
-    out: &mut [u8],
-    at: usize,
-) -> Timed {
-    let w = text::next_word(line, from, line.len());
-    let begin = w.from;
-    let to = w.to;
-    let n = numbers_from(line, to);
-    let f = forge_timing(t, &line[begin..to], n.value[0]);
+fn timing_forge(t: HiresOutputTimingState, line: &[u8], from: usize) -> Timed {
+    let field = named(line, from, b"state counter bits");
+    let n = numbers_from(line, field.to, 16);
+    let f = forge_timing(t, field.number, n.value[0]);
     let next = f.timing;
     if n.good {
         if f.good {
-            let a = put(out, at, b"timing forged");
-            let b = put_timing(out, a, next);
-            let c = put(out, b, b"\n");
-            return Timed {
-                timing: next,
-                good: true,
-                at: c,
-            };
+            return timed_line(next, made(TIMING_FORGED, 0, 0, 0));
         }
     }
-    Timed {
-        timing: t,
-        good: false,
-        at,
+    untimed(t)
+}
+
+// A line whose first word is `timing`.
+pub(crate) fn timing_call(t: HiresOutputTimingState, line: &[u8], from: usize) -> Timed {
+    let call = named(line, from, b"step branch new forge");
+    let number = call.number;
+    match number {
+        0 => timing_step(t, numbers_from(line, call.to, 16)),
+        1 => timed_answer(t.reset_for_branch()),
+        2 => timing_new(),
+        3 => timing_forge(t, line, call.to),
+        _ => untimed(t),
+    }
+}
+
+fn unwindowed(window: Window) -> Windowed {
+    Windowed {
+        window,
+        outcome: no_call(),
     }
 }
 
 // The window's record ends the line, with the units held.
-fn windowed_line(w: Window, out: &mut [u8], at: usize) -> Windowed {
+fn windowed_line(w: Window, answer: Part, report: Part) -> Windowed {
     let levels = w.levels;
     let held = levels.buffered();
-    let a = put_number(out, at, b" held ", held.units as u64);
-    let b = put_levels(out, a, levels);
-    let c = put(out, b, b"\n");
     Windowed {
         window: w,
-        good: true,
-        at: c,
+        outcome: answered_by(window_parts(answer, report, held.units, levels)),
     }
 }
 
@@ -177,18 +151,12 @@ fn contribution_of(v: [u64; 16]) -> Contribution {
 }
 
 // `window step PLAYHEAD REMOVAL`, five totals, five stream parts and four substreams
-fn window_step(w: Window, line: &[u8], from: usize, out: &mut [u8], at: usize) -> Windowed {
-    let n = numbers_from(line, from);
-    let mut good = n.good;
-    if n.count != 16 {
-        good = false;
+fn window_step(w: Window, n: Numbers) -> Windowed {
+    if n.good {} else {
+        return unwindowed(w);
     }
-    if good {} else {
-        return Windowed {
-            window: w,
-            good: false,
-            at,
-        };
+    if n.count != 16 {
+        return unwindowed(w);
     }
     let v = n.value;
     let pushed = w.push(SampleTime(v[0]), SampleTime(v[1]), contribution_of(v));
@@ -197,97 +165,72 @@ fn window_step(w: Window, line: &[u8], from: usize, out: &mut [u8], at: usize) -
     let depths = report.depths;
     let answer = pushed.answer;
     let next = pushed.window;
-    let a = put_window_answer(out, at, answer);
-    let b = put_underrun(out, a, underrun);
-    let c = put_depths(out, b, depths);
-    windowed_line(next, out, c)
+    windowed_line(next, window_part(answer), report_part(underrun, depths))
 }
 
-// A line whose first word is `window`.
-pub(crate) fn window_call(w: Window, line: &[u8], out: &mut [u8], at: usize) -> Windowed {
-    let name = text::next_word(line, 0, line.len());
-    let word = text::next_word(line, name.to, line.len());
-    let begin = word.from;
-    let to = word.to;
-    let call = &line[begin..to];
-    if check::same(call, b"step") {
-        return window_step(w, line, to, out, at);
-    }
-    if check::same(call, b"restart") {
-        let r = w.restart();
-        let answer = r.answer;
-        let next = r.window;
-        let a = put_window_answer(out, at, answer);
-        return windowed_line(next, out, a);
-    }
-    if check::same(call, b"new") {
-        let a = put(out, at, b"window 0");
-        return windowed_line(Window::fresh(), out, a);
-    }
-    if check::same(call, b"forge") {
-        return window_forge(w, line, to, out, at);
-    }
-    Windowed {
-        window: w,
-        good: false,
-        at,
-    }
+// `window restart`
+fn window_restart(w: Window) -> Windowed {
+    let r = w.restart();
+    let answer = r.answer;
+    let next = r.window;
+    windowed_line(next, window_part(answer), nothing())
 }
 
 // `window forge FIELD VALUE [NUMBER]`
-fn window_forge(w: Window, line: &[u8], from: usize, out: &mut [u8], at: usize) -> Windowed {
-    let word = text::next_word(line, from, line.len());
-    let begin = word.from;
-    let to = word.to;
-    let n = numbers_from(line, to);
-    let f = forge_window(w, &line[begin..to], n.value[0], n.value[1]);
-    let next = f.window;
+fn window_forge(w: Window, line: &[u8], from: usize) -> Windowed {
+    let field = named(line, from, b"read write total stream substream");
+    let n = numbers_from(line, field.to, 16);
+    let l = w.levels;
+    let rings = w.rings;
+    let f = forge_levels(l, field.number, n.value[0], n.value[1] as usize);
+    let levels = f.levels;
     if n.good {
         if f.good {
-            let a = put(out, at, b"window forged");
-            return windowed_line(next, out, a);
+            let next = Window { rings, levels };
+            return windowed_line(next, made(WINDOW_FORGED, 0, 0, 0), nothing());
         }
     }
-    Windowed {
-        window: w,
-        good: false,
-        at,
+    unwindowed(w)
+}
+
+// A line whose first word is `window`.
+pub(crate) fn window_call(w: Window, line: &[u8], from: usize) -> Windowed {
+    let call = named(line, from, b"step restart new forge");
+    let number = call.number;
+    match number {
+        0 => window_step(w, numbers_from(line, call.to, 16)),
+        1 => window_restart(w),
+        2 => windowed_line(Window::fresh(), made(WINDOW, 0, 0, 0), nothing()),
+        3 => window_forge(w, line, call.to),
+        _ => unwindowed(w),
     }
 }
 
-fn put_cap(out: &mut [u8], at: usize, c: Cap) -> usize {
+fn cap_outcome(c: Cap) -> Outcome {
     match c {
-        Cap::Bytes(n) => put_number(out, at, b"cap ", n),
-        Cap::Unchecked => put(out, at, b"cap unchecked"),
-        Cap::NoSuchAccumulator => put(out, at, b"cap none"),
+        Cap::Bytes(n) => short_answer(made(CAP, 0, n, 0), nothing()),
+        Cap::Unchecked => short_answer(made(CAP, 1, 0, 0), nothing()),
+        Cap::NoSuchAccumulator => short_answer(made(CAP, 2, 0, 0), nothing()),
     }
 }
 
-// `cap fba ACCUMULATOR`, `cap fbb ACCUMULATOR INFO`: the place behind the answer, or `at` where the line is no call
-pub(crate) fn cap_call(line: &[u8], from: usize, out: &mut [u8], at: usize) -> usize {
-    let w = text::next_word(line, from, line.len());
-    let begin = w.from;
-    let to = w.to;
-    let call = &line[begin..to];
-    let n = numbers_from(line, to);
+// `cap fba ACCUMULATOR`, `cap fbb ACCUMULATOR INFO`
+pub(crate) fn cap_call(line: &[u8], from: usize) -> Outcome {
+    let call = named(line, from, b"fba fbb");
+    let n = numbers_from(line, call.to, 16);
+    let k = n.value[0] as usize;
     if n.good {} else {
-        return at;
+        return no_call();
     }
-    if check::same(call, b"fba") {
+    if call.number == 0 {
         if n.count == 1 {
-            let a = put_cap(out, at, byte_caps::fba_cap(n.value[0] as usize));
-            return put(out, a, b"\n");
+            return cap_outcome(byte_caps::fba_cap(k));
         }
     }
-    if check::same(call, b"fbb") {
+    if call.number == 1 {
         if n.count == 2 {
-            let a = put_cap(
-                out,
-                at,
-                byte_caps::fbb_cap(n.value[0] as usize, low8(n.value[1])),
-            );
-            return put(out, a, b"\n");
+            return cap_outcome(byte_caps::fbb_cap(k, low8(n.value[1])));
         }
     }
-    at
+    no_call()
 }

@@ -7,10 +7,10 @@ use Rattle.replaying.proofs.words.numbers_from.Statement.{statement}
 use Rattle.replaying.proofs.words.numbers_from.Tie as tie
 
 abbrev Inv-loop : tie.InvT-loop
-Inv-loop line from value₀ at₀ count₀ value at count = (length value ≡ 16) × (count ≤ 16)
+Inv-loop line from most value₀ at₀ count₀ value at count = (length value ≡ 16) × (count ≤ 16)
 
 abbrev μ-loop : tie.MeasureT-loop
-μ-loop line from value₀ at₀ count₀ value at count = 16 - count
+μ-loop line from most value₀ at₀ count₀ value at count = 16 - count
 
 pub numbers-from-spec : {M : Type 1} → statement M
 numbers-from-spec =
@@ -20,9 +20,7 @@ numbers-from-spec =
     μ-loop
     (λ c. search needs)
     (λ c κs. search needs)
-    (λ c. search needs)
     (λ c κs. search needs)
-    (λ c. search needs)
     (λ c. search needs)
     (λ c. search needs)
     (λ c. search needs)
