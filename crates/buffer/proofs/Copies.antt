@@ -6,29 +6,18 @@ use native.Mathlib.Omega.{arith}
 use mathlib.Core.Path.{_≡_, refl, sym, ap, _∙_}
 use mathlib.Core.List.{List, _++_, append-assoc}
 use lib.ListN.{length, getD, take, drop, set, length-append, length-take, length-drop}
-use lib.Seq.{paste as pasteUpto, paste-zero, paste-suc, take-length, getD-append-add, getD-drop, take-at, take-add, drop-append-add, drop-drop}
+use lib.Seq.{paste-suc, take-length, getD-append-add, getD-drop, take-at, take-add, drop-append-add, drop-drop}
 use Rattle.laws.specs.Parts.{part}
+use Rattle.laws.specs.Writes.{written, written-whole}
 use Rattle.machine.specs.Lent.{paste}
-
--- the first i bytes of s written at a place of d
-unfoldable pub written : List ℕ → ℕ → List ℕ → ℕ → List ℕ
-written d at s i = pasteUpto d at s i
 
 -- the first i bytes from start on, moved to the front of d
 unfoldable pub moved : List ℕ → ℕ → ℕ → List ℕ
 moved d start i = part d start i ++ drop i d
 
-pub written-none : (d : List ℕ) (at : ℕ) (s : List ℕ) → d ≡ written d at s 0
-unfolding written
-written-none d at s = paste-zero d at s
-
-pub written-more : (d b s : List ℕ) (at i : ℕ) → at + length s ≤ length d → i < length s → b ≡ written d at s i → set b (at + i) (getD s i 0) ≡ written d at s (i + 1)
-unfolding written
-written-more d b s at i room more e = let h : at + i < length d = omega arith in rw (e, add-one) (paste-suc d at s i 0 h more)
-
-pub written-whole : (d b s : List ℕ) (at i : ℕ) → i ≤ length s → length s ≤ i → b ≡ written d at s i → b ≡ paste d at s
-unfolding written
-written-whole d b s at i u v e = let k : i ≡ length s = omega arith in e ∙ rw (k, take-length, append-assoc)
+-- a piece written whole, in the lent buffer's words
+pub write-whole : (d b s : List ℕ) (at i : ℕ) → i ≤ length s → length s ≤ i → b ≡ written d at s i → b ≡ paste d at s
+write-whole d b s at i u v e = written-whole d b s at i u v e ∙ rw (take-length, append-assoc)
 
 pub moved-none : (d : List ℕ) (start : ℕ) → d ≡ moved d start 0
 unfolding moved

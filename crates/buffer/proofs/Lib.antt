@@ -1,3 +1,4 @@
+-- Copying byte by byte, and that each call has one answer.
 pub mod One
 mod Copies
 mod Ways

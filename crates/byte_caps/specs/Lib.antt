@@ -1,1 +1,2 @@
+-- What the byte caps are, cited by the contracts.
 pub mod Caps

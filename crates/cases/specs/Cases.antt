@@ -1,6 +1,6 @@
 -- P1 to P9 with what document 01 says of each: definitions only. An outcome is written as the number of the answer and its values.
 use Prim.Native.Nat.{ℕ}
-use mathlib.Core.Bool.{Bool, true, false, _&&_}
+use mathlib.Core.Bool.{Bool, true, false}
 use mathlib.Core.List.{List, [], _∷_}
 use lib.Dec.{eqb}
 use lib.ListN.{getD, replicate}
@@ -141,7 +141,7 @@ unfoldable pub same : List ℕ → List ℕ → Bool
 same [] [] = true
 same [] (y ∷ ys) = false
 same (x ∷ xs) [] = false
-same (x ∷ xs) (y ∷ ys) = eqb x y && same xs ys
+same (x ∷ xs) (y ∷ ys) = pick (eqb x y) (same xs ys) false
 
 -- the test of a row
 abbrev pub right : ℕ → Row → Bool

@@ -1,12 +1,11 @@
 -- The table is right, row by row: one test that is computed over the whole of it, and one law that turns it into each case.
 use Prim.Native.Nat.{ℕ, _<_}
 use mathlib.Core.Path.{_≡_, refl, ap₂}
-use mathlib.Core.Bool.{Bool, true, false, _&&_}
 use mathlib.Core.List.{List, [], _∷_}
 use lib.Dec.{T, eqb, eqb→eq}
 use lib.ListN.{length, getD}
 use Rattle.laws.specs.First.{firstFrom}
-use Rattle.laws.specs.Table.{every, at-each}
+use Rattle.laws.specs.Table.{every, both-pass, at-each}
 use Rattle.machine.specs.Loop.{within, looped}
 use Rattle.machine.specs.Scan.{onward, request}
 use Rattle.machine.specs.Ask.{ask, arrived, decide, moved, settle}
@@ -34,11 +33,7 @@ unfolding same
 same-lists [] [] t = refl
 same-lists [] (y ∷ ys) t = absurd t
 same-lists (x ∷ xs) [] t = absurd t
-same-lists (x ∷ xs) (y ∷ ys) t = ap₂ (λ a b. a ∷ b) (eqb→eq x y (both (eqb x y) (same xs ys) t .0)) (same-lists xs ys (both (eqb x y) (same xs ys) t .1))
-  where
-    both : (a b : Bool) → T (a && b) → T a × T b
-    both true b t = (tt, t)
-    both false b t = absurd t
+same-lists (x ∷ xs) (y ∷ ys) t = ap₂ (λ a b. a ∷ b) (eqb→eq x y (both-pass (eqb x y) (same xs ys) t .0)) (same-lists xs ys (both-pass (eqb x y) (same xs ys) t .1))
 
 -- EACH CASE: what document 01 says of the k-th row is what the definitions give.
 pub each-case : (k : ℕ) → k < length table → (d : Row) → outcomeOf (getD table k d .case) ≡ getD table k d .outcome

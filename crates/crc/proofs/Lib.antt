@@ -1,1 +1,2 @@
+-- Each call of the check has one answer.
 pub mod One

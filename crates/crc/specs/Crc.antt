@@ -1,7 +1,7 @@
 -- Document 01, "The check".
 use Prim.Native.Nat.{ℕ, _+_, _*_, _/_, _%_}
 use mathlib.Core.List.{List, [], _∷_, _++_}
-use mathlib.Core.Bool.{Bool, true, false}
+use mathlib.Core.Bool.{Bool, false}
 use lib.Dec.{leb}
 use lib.Bits.{bitXor}
 use lib.ListN.{replicate}

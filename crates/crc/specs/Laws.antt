@@ -1,12 +1,12 @@
 -- What holds of the check for every setting: a message in parts, and the register's width.
-use Prim.Native.Nat.{ℕ, zero, suc, _+_, _*_, _/_, _%_, _^_, _≤_, _<_}
+use Prim.Native.Nat.{ℕ, _+_, _*_, _%_, _^_, _<_}
 use native.Mathlib.Omega.{arith}
 use mathlib.Core.Path.{_≡_, refl, sym, ap, _∙_}
-use mathlib.Core.Bool.{Bool, true, false}
+use mathlib.Core.Bool.{true, false}
 use mathlib.Core.List.{List, [], _∷_, _++_, append-assoc}
 use lib.Dec.{leb}
-use lib.Bits.{bitXor, xor-lt}
-use Rattle.laws.specs.Pick.{pick, pick-holds}
+use lib.Bits.{xor-lt}
+use Rattle.laws.specs.Pick.{pick-holds}
 use Rattle.crc.specs.Crc.{bitStep, run, byteBits, bitsOf, closing, updateOf, closedOf, checkOf}
 use Rattle.crc.specs.declared.Algorithm.{Algorithm}
 
@@ -32,9 +32,6 @@ bits-none = refl
 -- a message in two parts: what the first leaves, the second takes up
 pub update-append : (a : Algorithm) (crc : ℕ) (s t : List ℕ) → updateOf a crc (s ++ t) ≡ updateOf a (updateOf a crc s) t
 update-append a crc s t = ap (run (a .poly) crc) (bits-append s t) ∙ run-append (a .poly) crc (bitsOf s) (bitsOf t)
-
-pub update-cons : (a : Algorithm) (crc x : ℕ) (s : List ℕ) → updateOf a crc (x ∷ s) ≡ updateOf a (run (a .poly) crc (byteBits x)) s
-update-cons a crc x s = ap (run (a .poly) crc) (bits-cons x s) ∙ run-append (a .poly) crc (byteBits x) (bitsOf s)
 
 -- the check of a message is the update from the start, then the closing
 pub check-closed : (a : Algorithm) (s : List ℕ) → checkOf a s ≡ closedOf a (updateOf a (a .init) s)

@@ -1,10 +1,11 @@
 -- What each way out of a call shows.
-use Prim.Native.Nat.{ℕ, _≤_, _<_, _%_}
-use mathlib.Core.Path.{_≡_, refl, sym}
+use Prim.Native.Nat.{ℕ, _%_}
+use mathlib.Core.Path.{_≡_}
 use mathlib.Core.Bool.{Bool, true, false}
 use mathlib.Core.List.{List}
-use borrow.Author.Tests.{lt-ltb, le-ltb, eq-eqb, ne-eqb}
+use borrow.Author.Tests.{eq-eqb, ne-eqb}
 use lib.ListN.{set}
+use Rattle.laws.specs.Flags.{yesOf, flagOf}
 use Rattle.timestamp.specs.declared.Framerate.{Framerate}
 use Rattle.timestamp.specs.declared.Timestamp.{Timestamp}
 use Rattle.timestamp.specs.Timestamp.{rateOf}
@@ -21,21 +22,8 @@ use Rattle.extract.specs.declared.Opened.the-variants.{Open, Refused}
 use Rattle.extract.specs.declared.Answer.{Answer}
 use Rattle.extract.specs.declared.Answer.the-variants.{Unit as AUnit, InvalidAccessUnitLength, ParityCheckFailed, InsufficientData, Quiet, Record}
 use Rattle.extract.specs.declared.Pushed.{Pushed}
-use Rattle.exports.specs.Words.{word, yesOf, flagOf, half, upTo, rateCode, stampOf, waitingOf, stampWords, stampOn, settingOf, checkOf, streamOf, readerOf, leftOn, readerOn}
+use Rattle.exports.specs.Words.{word, half, upTo, rateCode, stampOf, waitingOf, stampWords, stampOn, settingOf, checkOf, streamOf, readerOf, leftOn, readerOn}
 use Rattle.exports.specs.Answers.{openedNumber, openedOn, pushNumber, placedOn, pushedOn, unitOn, shortOn, askedNumber, askedUnit, askedOn}
-
-pub is-yes : (w : ℕ) → 0 < w → true ≡ yesOf w
-is-yes w h = sym (lt-ltb 0 w h)
-
-pub is-no : (w : ℕ) → w ≤ 0 → false ≡ yesOf w
-is-no w h = sym (le-ltb 0 w h)
-
-module _ (w limit : ℕ) where
-  pub stays : w < limit → w ≡ upTo limit w
-  stays h = rw (lt-ltb w limit h)
-
-  pub caps : limit ≤ w → limit ≡ upTo limit w
-  caps h = rw (le-ltb w limit h)
 
 -- a timestamp's words, of which three are read by a call
 pub stamps : (ws : List ℕ) {f : Framerate} {a b : Bool} → f ≡ rateOf (word ws 7 % 256) → a ≡ yesOf (word ws 8) → b ≡ yesOf (word ws 9)

@@ -13,7 +13,8 @@ use Rattle.extract.specs.declared.PushAnswer.{PushAnswer}
 use Rattle.extract.specs.declared.Pushed.{Pushed}
 use Rattle.extract.specs.declared.Answer.{Answer}
 use Rattle.extract.specs.declared.Answer.the-variants.{Unit as AUnit, InvalidAccessUnitLength, ParityCheckFailed, InsufficientData, Quiet, Record}
-use Rattle.exports.specs.Words.{flagOf, stampOn, leftOn, readerOn}
+use Rattle.laws.specs.Flags.{flagOf}
+use Rattle.exports.specs.Words.{stampOn, leftOn, readerOn}
 
 -- OPENING: number 1 where it is refused; then nothing is written
 abbrev pub openedNumber : Opened → ℕ

@@ -1,28 +1,28 @@
 -- Laws: the words that a call leaves are read by the next call as the record that the library left. So a chain of exported calls is the chain of the
 -- library's. A record's numbers are of any size in the logic; `Held` says of them what their types say of every value that runs.
-use Prim.Native.Nat.{ℕ, _<_, _/_, _%_}
+use Prim.Native.Nat.{ℕ, _≤_, _<_, _/_, _%_}
 use native.Mathlib.Omega.{arith}
-use mathlib.Core.Path.{_≡_, refl, sym, _∙_, subst}
+use mathlib.Core.Path.{_≡_, refl, subst}
 use mathlib.Core.Bool.{Bool, true, false}
 use mathlib.Core.List.{List, [], _∷_}
 use lib.Dec.{eqb}
 use lib.ListN.{length}
-use borrow.Author.Tests.{lt-ltb}
+use borrow.Author.Tests.{lt-ltb, le-ltb}
 use Rattle.machine.specs.Always.{AfterRequest}
 use Rattle.machine.specs.Scan as Scan
 use Rattle.crc.specs.declared.Algorithm.{Algorithm}
 use Rattle.timestamp.specs.declared.Framerate.{Framerate}
 use Rattle.timestamp.specs.declared.Timestamp.{Timestamp}
-use Rattle.timestamp.specs.declared.Parsed.{Parsed}
 use Rattle.timestamp.specs.declared.Parsed.the-variants.{Stamp as Parses}
 use Rattle.laws.specs.Words.{wordAt}
+use Rattle.laws.specs.Flags.{yesOf, yes-flag}
 use Rattle.timestamp.specs.Timestamp.{rateOf, parseOf, stampOf as fieldsStamp}
 use Rattle.timestamp.specs.Laws.{OfStamp, every-parse}
 use Rattle.laws.specs.Pick.{pick, pick-holds}
 use Rattle.rules.specs.declared.Waiting.{Waiting}
 use Rattle.rules.specs.declared.Waiting.the-variants.{Nothing, Stamp}
 use Rattle.rules.specs.declared.Stream.{Stream}
-use Rattle.rules.specs.Request.{reader, Event, handed, tooShort, failed}
+use Rattle.rules.specs.Request.{Event, handed, tooShort, failed}
 use Rattle.rules.specs.CarryLaws.{Carried, carried-request}
 use Rattle.extract.specs.Record.{fitsOf, unread, opened}
 use Rattle.extract.specs.Calls.{pushAnswerOf, placeOf, grown, onAccepted, pushedOf, leftAt, answeredOf, askedOf}
@@ -31,14 +31,10 @@ use Rattle.extract.specs.declared.PushAnswer.{PushAnswer}
 use Rattle.extract.specs.declared.PushAnswer.the-variants.{Accepted, Record as PushRecord, Pushes, Total, Room}
 use Rattle.extract.specs.declared.Answer.the-variants.{InsufficientData, Quiet, Record as BadRecord}
 use Rattle.extract.specs.declared.Asked.{Asked}
-use Rattle.exports.specs.Words.{yesOf, flagOf, half, upTo, rateCode, stampOf, waitingOf, stampWords, stampOn, checkOf, streamOf, readerOf, leftOn, readerOn}
+use Rattle.exports.specs.Words.{half, upTo, rateCode, stampOf, waitingOf, stampWords, stampOn, checkOf, streamOf, readerOf, leftOn, readerOn}
 use Rattle.exports.specs.Answers.{placedOn, pushedOn, askedNumber, askedOn}
 
 -- 1. A number goes into its word and back.
-
-pub yes-flag : (b : Bool) → yesOf (flagOf b) ≡ b
-yes-flag true = refl
-yes-flag false = refl
 
 half-of : (n : ℕ) → n < 65536 → half n ≡ n
 half-of n h = omega arith
@@ -46,8 +42,12 @@ half-of n h = omega arith
 low : (n : ℕ) → n < 256 → n % 256 ≡ n
 low n h = omega arith
 
-up-to : (limit n : ℕ) → n < limit → upTo limit n ≡ n
+-- what is below its limit is read as it is, and what isn't as the limit
+pub up-to : (limit n : ℕ) → n < limit → n ≡ upTo limit n
 up-to limit n h = rw (lt-ltb n limit h)
+
+pub capped : (limit n : ℕ) → limit ≤ n → limit ≡ upTo limit n
+capped limit n h = rw (le-ltb n limit h)
 
 -- 2. A timestamp: the rate is the one that its code says, and the numbers are what their types hold.
 
@@ -146,11 +146,11 @@ module _ (w0 w1 w2 w3 w4 w5 w6 w7 w8 w9 w10 w11 w12 w13 w14 w15 w16 w17 w18 w19 
       → HeldWaiting w → CodedWaiting w → Back start unanswered consumed frames errors substreams locked seen w
   unfolding leftOn readerOf streamOf checkOf stampOn stampWords waitingOf stampOf
   record-back start unanswered consumed frames errors substreams locked seen Nothing n k h c =
-      rw (up-to 65536 unanswered n, up-to 16 substreams k, yes-flag locked, yes-flag seen)
+      rw (← (up-to 65536 unanswered n), ← (up-to 16 substreams k), yes-flag locked, yes-flag seen)
   record-back start unanswered consumed frames errors substreams locked seen (Stamp t) n k h c =
       rw (
-        up-to 65536 unanswered n,
-        up-to 16 substreams k,
+        ← (up-to 65536 unanswered n),
+        ← (up-to 16 substreams k),
         yes-flag locked,
         yes-flag seen,
         half-of (t .hours) (h .hours),
@@ -240,7 +240,7 @@ module _ (w0 w1 w2 w3 w4 w5 w6 w7 w8 w9 w10 w11 w12 w13 w14 w15 w16 w17 w18 w19 
   placed-back : (start end accepted unanswered : ℕ) → unanswered < 65536
       → readerOf (placedOn words (placed start end accepted unanswered)) ≡ placed start end accepted unanswered
   unfolding readerOf streamOf waitingOf stampOf checkOf
-  placed-back start end accepted unanswered h = rw (up-to 65536 unanswered h)
+  placed-back start end accepted unanswered h = rw (← (up-to 65536 unanswered h))
 
   pub push-there-and-back : (n k : ℕ) → (pushedOf (readerOf words) n k) .extractor .unanswered < 65536
       → readerOf (pushedOn words (pushedOf (readerOf words) n k)) ≡ (pushedOf (readerOf words) n k) .extractor

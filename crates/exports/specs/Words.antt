@@ -1,17 +1,15 @@
 -- What the words of a record say, and how a record is laid on them: definitions only. The words' places are listed in src/lib.rt.
 use Prim.Native.Nat.{ℕ, _%_}
-use mathlib.Core.Bool.{Bool, true, false}
 use mathlib.Core.List.{List}
 use lib.Dec.{ltb}
 use lib.ListN.{getD, set}
 use Rattle.laws.specs.Pick.{pick}
-use Rattle.kinds.specs.declared.BytePosition.{BytePosition}
+use Rattle.laws.specs.Flags.{yesOf, flagOf}
 use Rattle.crc.specs.declared.Algorithm.{Algorithm}
 use Rattle.timestamp.specs.declared.Framerate.{Framerate}
 use Rattle.timestamp.specs.declared.Framerate.the-variants.{«R23_976», R24, R25, «R29_97», R30, R50, «R59_94», R60, Invalid}
 use Rattle.timestamp.specs.declared.Timestamp.{Timestamp}
 use Rattle.timestamp.specs.Timestamp.{rateOf}
-use Rattle.rules.specs.declared.Losses.{Losses}
 use Rattle.rules.specs.declared.Waiting.{Waiting}
 use Rattle.rules.specs.declared.Waiting.the-variants.{Nothing, Stamp}
 use Rattle.rules.specs.declared.Stream.{Stream}
@@ -19,14 +17,6 @@ use Rattle.extract.specs.declared.Extractor.{Extractor}
 
 abbrev pub word : List ℕ → ℕ → ℕ
 word ws k = getD ws k 0
-
--- any word but zero is yes; yes is written as 1
-abbrev pub yesOf : ℕ → Bool
-yesOf w = ltb 0 w
-
-abbrev pub flagOf : Bool → ℕ
-flagOf true = 1
-flagOf false = 0
 
 -- the low 16 bits; and a word read whole up to a limit, so that what number 1 refuses stays refused
 abbrev pub half : ℕ → ℕ

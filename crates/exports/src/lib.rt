@@ -14,11 +14,11 @@ ghost use mathlib.Core.Path.{_≡_};
 ghost use Prim.Native.Nat.{_≤_};
 ghost use lib.ListN.{length};
 ghost use Rattle.extract.specs.Calls.{openedOf, pushedOf, bufferOf, askedOf};
-ghost use Rattle.exports.specs.Words.{yesOf, flagOf, upTo, rateCode, stampOf, waitingOf, stampWords, stampOn, settingOf, checkOf, streamOf, readerOf, leftOn, readerOn};
+ghost use Rattle.laws.specs.Flags.{yesOf, flagOf};
+ghost use Rattle.exports.specs.Words.{upTo, rateCode, stampOf, waitingOf, stampWords, stampOn, settingOf, checkOf, streamOf, readerOf, leftOn, readerOn};
 ghost use Rattle.exports.specs.Answers.{openedNumber, openedOn, pushNumber, pushedOn, unitOn, shortOn, askedNumber, askedOn, askedUnit};
 use crc::Algorithm;
 use extract::Answer;
-use extract::Asked;
 use extract::Extractor;
 use extract::Opened;
 use extract::PushAnswer;
@@ -35,7 +35,7 @@ use timestamp::Timestamp;
 fn yes(w: u64) -> bool
     ensures { λ r. ⌜ r ≡ yesOf w ⌝ }
 {
-    if 0 < w { true } else { false }
+    0 < w
 }
 
 fn flag(b: bool) -> u64

@@ -1,18 +1,16 @@
 -- A request, turn by turn: what each way of its loop shows.
-use Prim.Native.Nat.{ℕ, zero, suc, _+_, _-_, _*_, _≤_, _<_}
+use Prim.Native.Nat.{ℕ, zero, suc, _+_, _-_, _≤_, _<_}
 use native.Mathlib.Omega.{arith}
 use mathlib.Core.Path.{_≡_, refl, sym, ap, _∙_, subst}
 use mathlib.Core.Bool.{Bool, true, false}
 use mathlib.Core.List.{List, []}
-use lib.Dec.{eqb}
-use lib.ListN.{length, take, drop, length-take, length-drop}
+use lib.ListN.{length, drop, length-take, length-drop}
 use borrow.Author.Tests.{eq-eqb, ne-eqb}
-use Rattle.laws.specs.Pick.{pick}
 use Rattle.laws.specs.Parts.{part, drop-part}
-use Rattle.machine.specs.Step.{Step, dry, quiet, speak, Below}
+use Rattle.machine.specs.Step.{speak, Below}
 use Rattle.machine.specs.Always.{AfterStep}
 use Rattle.machine.specs.Scan as Scan
-use Rattle.machine.specs.Scan.{request, ranDry, spoke}
+use Rattle.machine.specs.Scan.{request}
 use Rattle.machine.specs.ScanLaws.{request-dry, request-quiet, request-speak}
 use Rattle.rules.specs.declared.Stream.{Stream}
 use Rattle.rules.specs.declared.Unit.{Unit as TheUnit}
@@ -20,7 +18,6 @@ use Rattle.rules.specs.Request.{Event, handed, tooShort, failed, stepBy, sizeOf
 use Rattle.rules.specs.RulesLaws.{reader-laws}
 use Rattle.rules.specs.FitLaws.{Fit, fit-step}
 use Rattle.extract.specs.declared.Extractor.{Extractor}
-use Rattle.extract.specs.declared.Answer.{Answer}
 use Rattle.extract.specs.declared.Answer.the-variants.{Unit as AUnit, InvalidAccessUnitLength, ParityCheckFailed, InsufficientData, Quiet as AQuiet, Record}
 use Rattle.extract.specs.declared.Asked.{Asked}
 use Rattle.extract.specs.declared.step.Outcome.{Outcome}
@@ -28,7 +25,7 @@ use Rattle.extract.specs.declared.step.Outcome.the-variants.{Dry, Quiet,
 use Rattle.extract.specs.declared.step.Stepped.{Stepped}
 use Rattle.extract.specs.Record.{fitsOf, unread}
 use Rattle.extract.specs.Fits.{Fits, fits-says}
-use Rattle.extract.specs.Steps.{outcomeOf, steppedOf, Within, StepsAs}
+use Rattle.extract.specs.Steps.{outcomeOf, Within, StepsAs}
 use Rattle.extract.specs.Calls.{leftAt, dryAt, spokenAt, answerOf, answeredOf, askedOf}
 
 -- the answers that a request leaves

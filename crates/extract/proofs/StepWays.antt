@@ -1,16 +1,14 @@
 -- What each way out of a step shows.
-use Prim.Native.Nat.{ℕ, _+_, _-_, _*_, _≤_, _<_}
+use Prim.Native.Nat.{ℕ, _+_, _-_, _≤_}
 use native.Mathlib.Omega.{arith}
 use mathlib.Core.Path.{_≡_, refl, sym, ap, _∙_}
 use mathlib.Core.Bool.{Bool, true, false}
-use mathlib.Core.Option.{Option, none, some}
+use mathlib.Core.Option.{some}
 use mathlib.Core.List.{List}
 use lib.ListN.{length, take, drop, length-drop}
 use lib.Seq.{drop-drop, take-all}
-use Rattle.laws.specs.Pick.{pick}
-use Rattle.laws.specs.First.{Place, At, Nowhere}
-use Rattle.machine.specs.Step.{Step, dry, quiet, speak}
-use Rattle.machine.specs.Ask.{Eat, decide, settle, moved}
+use Rattle.laws.specs.First.{At}
+use Rattle.machine.specs.Ask.{decide, settle, moved}
 use Rattle.rules.specs.declared.Waiting.{Waiting}
 use Rattle.rules.specs.declared.Loss.{Loss}
 use Rattle.rules.specs.declared.Loss.the-variants.{Length, Check}
@@ -18,13 +16,12 @@ use Rattle.rules.specs.declared.Stream.{Stream}
 use Rattle.rules.specs.declared.Verdict.{Verdict}
 use Rattle.rules.specs.declared.Verdict.the-variants.{Lock, Lost, Short, Failed, Whole}
 use Rattle.rules.specs.Search.{find, keep, stampAt, candidate}
-use Rattle.rules.specs.Request.{lose, lock, passOn, unitOf, advance, arrive, unit, act, search, stepBy, Event}
+use Rattle.rules.specs.Request.{lose, lock, passOn, unitOf, advance, arrive, unit, act, search, stepBy}
 use Rattle.machine.specs.AskLaws.{decide-fits, decide-all}
 use Rattle.rules.specs.VerdictLaws.{candidate-all, unit-all}
 use Rattle.rules.specs.StepLaws.{step-locked, step-searching}
 use Rattle.rules.specs.FindLaws.{found-fits}
 use Rattle.rules.specs.FitLaws.{Fit}
-use Rattle.extract.specs.declared.step.Outcome.{Outcome}
 use Rattle.extract.specs.declared.step.Outcome.the-variants.{Dry, Quiet, Handed, TooShort, Failed as CheckFailed}
 use Rattle.extract.specs.declared.step.Stepped.{Stepped}
 use Rattle.judging.specs.declared.search.Found.{Found}
@@ -32,7 +29,7 @@ use Rattle.judging.specs.declared.search.Found.the-variants.{At as FoundAt, Now
 use Rattle.judging.specs.declared.search.Judged.{Judged}
 use Rattle.judging.specs.declared.search.Judged.the-variants.{Given, Missing}
 use Rattle.judging.specs.Means.{foundOf, judgedOf}
-use Rattle.extract.specs.Steps.{Roomy, Ready, arrivedOf, verdictOf, settledOf, steppedOf, Within, StepsAs, FoundIn}
+use Rattle.extract.specs.Steps.{Roomy, Ready, arrivedOf, verdictOf, steppedOf, Within, StepsAs, FoundIn}
 
 -- a verdict, by its case
 module _ (s : Stream) (before n : ℕ) {v : Verdict} {x : Stream} where

@@ -1,13 +1,12 @@
 -- What each way out of the record's tests, of opening and of a push shows.
 use Prim.Native.Nat.{ℕ, _+_, _-_, _≤_, _<_}
 use native.Mathlib.Omega.{arith}
-use mathlib.Core.Path.{_≡_, refl, sym, _∙_}
+use mathlib.Core.Path.{_≡_, sym, _∙_}
 use mathlib.Core.Bool.{Bool, true, false}
 use lib.Dec.{leb, eqb}
 use borrow.Author.Tests.{eq-eqb, ne-eqb, le-leb, lt-leb}
 use Rattle.laws.specs.Pick.{pick}
 use Rattle.crc.specs.declared.Algorithm.{Algorithm}
-use Rattle.extract.specs.declared.Opened.{Opened}
 use Rattle.extract.specs.declared.Opened.the-variants.{Open, Refused}
 use Rattle.extract.specs.declared.Extractor.{Extractor}
 use Rattle.extract.specs.Record.{most, roomFits, recordFits, fitsOf, opened}

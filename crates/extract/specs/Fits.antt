@@ -1,11 +1,10 @@
 -- What number 1's conditions say, one by one, of a record that fits; and that they are all of it.
-use Prim.Native.Nat.{ℕ, _+_, _-_, _≤_, _<_}
-use native.Mathlib.Omega.{arith}
-use mathlib.Core.Path.{_≡_, refl, sym, ap, _∙_}
+use Prim.Native.Nat.{ℕ, _+_, _≤_}
+use mathlib.Core.Path.{_≡_, refl}
 use mathlib.Core.Bool.{Bool, true, false, _&&_, false≢true}
 use lib.Dec.{leb, eqb}
 use borrow.Author.Tests.{leb-true, eqb-true, le-leb, eq-eqb}
-use Rattle.laws.specs.Pick.{pick}
+use Rattle.laws.specs.Pick.{pick, both-joined}
 use Rattle.extract.specs.declared.Extractor.{Extractor}
 use Rattle.extract.specs.Record.{most, roomFits, recordFits, fitsOf, unreadOf, errorsOf}
 
@@ -26,10 +25,6 @@ pub record Fits (r : Extractor) (n : ℕ) : Type 0 where
   pub high : n ≤ 1048576
   pub inside : r .end ≤ n
 
-both : (a b : Bool) → (a && b) ≡ true → (a ≡ true) × (b ≡ true)
-both true b e = (refl, e)
-both false b e = absurd (false≢true e)
-
 joined : (a b : Bool) → a ≡ true → b ≡ true → (a && b) ≡ true
 joined a b p q = rw (p, q)
 
@@ -44,12 +39,12 @@ seen-locked false s f = refl
 pub record-says : (r : Extractor) → recordFits r ≡ true → Itself r
 unfolding recordFits
 record-says r e =
-    let a = both (leb (r .start) (r .end)) _ e in
-    let b = both (eqb (r .accepted) (r .stream .consumed .0 + unreadOf r)) _ (a .1) in
-    let c = both (leb (r .accepted) most) _ (b .1) in
-    let d = both (leb (r .stream .frames + errorsOf (r .stream .losses)) (r .stream .consumed .0)) _ (c .1) in
-    let f = both (leb (r .unanswered) 65535) _ (d .1) in
-    let g = both (leb (r .stream .substreams) 15) _ (f .1) in
+    let a = both-joined (leb (r .start) (r .end)) _ e in
+    let b = both-joined (eqb (r .accepted) (r .stream .consumed .0 + unreadOf r)) _ (a .1) in
+    let c = both-joined (leb (r .accepted) most) _ (b .1) in
+    let d = both-joined (leb (r .stream .frames + errorsOf (r .stream .losses)) (r .stream .consumed .0)) _ (c .1) in
+    let f = both-joined (leb (r .unanswered) 65535) _ (d .1) in
+    let g = both-joined (leb (r .stream .substreams) 15) _ (f .1) in
     record {
       order = leb-true _ _ (a .0);
       adds = eqb-true _ _ (b .0);
@@ -73,9 +68,9 @@ record-when r i =
 pub fits-says : (r : Extractor) (n : ℕ) → fitsOf r n ≡ true → Fits r n
 unfolding fitsOf
 fits-says r n e =
-    let a = both (recordFits r) _ e in
-    let b = both (roomFits n) (leb (r .end) n) (a .1) in
-    let c = both (leb 8192 n) (leb n 1048576) (b .0) in
+    let a = both-joined (recordFits r) _ e in
+    let b = both-joined (roomFits n) (leb (r .end) n) (a .1) in
+    let c = both-joined (leb 8192 n) (leb n 1048576) (b .0) in
     record { itself = record-says r (a .0); low = leb-true _ _ (c .0); high = leb-true _ _ (c .1); inside = leb-true _ _ (b .1) }
 
 pub fits-when : (r : Extractor) (n : ℕ) → Fits r n → fitsOf r n ≡ true

@@ -1,9 +1,8 @@
 -- Number 1 for a reader, in two parts: the record's own, which needs no buffer, and the buffer's. Definitions only.
 use Prim.Native.Nat.{ℕ, _+_, _-_}
-use mathlib.Core.Bool.{Bool, true, false, _&&_}
+use mathlib.Core.Bool.{Bool, true, _&&_}
 use mathlib.Core.List.{List}
 use lib.Dec.{leb, eqb}
-use lib.ListN.{length}
 use Rattle.laws.specs.Pick.{pick}
 use Rattle.laws.specs.Parts.{part}
 use Rattle.crc.specs.declared.Algorithm.{Algorithm}

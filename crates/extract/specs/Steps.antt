@@ -1,14 +1,12 @@
 -- A step of the code in the rules' words: definitions only.
-use Prim.Native.Nat.{ℕ, zero, suc, _+_, _-_, _≤_}
+use Prim.Native.Nat.{ℕ, _+_, _≤_}
 use mathlib.Core.Path.{_≡_}
-use mathlib.Core.Bool.{Bool, true, false}
-use mathlib.Core.Option.{Option, none, some}
+use mathlib.Core.Bool.{true, false}
 use mathlib.Core.List.{List}
 use lib.ListN.{length, drop}
 use Rattle.laws.specs.First.{At}
 use Rattle.rules.specs.Search.{find}
 use Rattle.machine.specs.Step.{Step, dry, quiet, speak}
-use Rattle.machine.specs.Ask.{Eat}
 use Rattle.rules.specs.declared.Waiting.{Waiting}
 use Rattle.rules.specs.declared.Loss.the-variants.{Length, Check}
 use Rattle.rules.specs.declared.Stream.{Stream}

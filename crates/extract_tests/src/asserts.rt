@@ -1,16 +1,16 @@
 // The assertions of a test, counted: which was the first that differed.
-pub struct Check {
+pub(crate) struct Check {
     pub made: u64,
     pub first: u64,
 }
 
 impl Check {
-    pub fn new() -> Check {
+    pub(crate) fn new() -> Check {
         Check { made: 0, first: 0 }
     }
 
     // One assertion more.
-    pub fn holds(self, ok: bool) -> Check {
+    pub(crate) fn holds(self, ok: bool) -> Check {
         let made = std::num::wrapping_add_u64(self.made, 1);
         if self.first != 0 {
             return Check {

@@ -86,7 +86,7 @@ fn push_pattern(reader: Extractor, buf: &mut Buffer, pattern: &[u8; 120000]) -> 
     push_and_resync(reader, buf, pattern)
 }
 
-pub fn buf_extract(new: Extractor, buf: &mut Buffer) -> Check {
+pub(crate) fn buf_extract(new: Extractor, buf: &mut Buffer) -> Check {
     let example = EXAMPLE_DATA;
     let mut pattern = blank();
     fill(&mut pattern);
@@ -105,7 +105,10 @@ pub fn buf_extract(new: Extractor, buf: &mut Buffer) -> Check {
     check.holds(is_unit_of(y, 20))
 }
 
-pub fn one_byte_fragments_preserve_the_first_major_sync(new: Extractor, buf: &mut Buffer) -> Check {
+pub(crate) fn one_byte_fragments_preserve_the_first_major_sync(
+    new: Extractor,
+    buf: &mut Buffer,
+) -> Check {
     let example = EXAMPLE_DATA;
     let seen = in_pieces(new, buf, &example, 1);
     let mut check = Check::new();
@@ -118,7 +121,7 @@ pub fn one_byte_fragments_preserve_the_first_major_sync(new: Extractor, buf: &mu
     check.holds(seen.reader.stream.consumed.0 == 120)
 }
 
-pub fn one_byte_fragments_preserve_a_major_sync_during_resync(
+pub(crate) fn one_byte_fragments_preserve_a_major_sync_during_resync(
     new: Extractor,
     buf: &mut Buffer,
 ) -> Check {
@@ -154,7 +157,10 @@ fn keeps_its_timestamp(
     counted.holds(same_waiting(first, expected))
 }
 
-pub fn a_split_first_access_unit_keeps_its_timestamp(new: Extractor, buf: &mut Buffer) -> Check {
+pub(crate) fn a_split_first_access_unit_keeps_its_timestamp(
+    new: Extractor,
+    buf: &mut Buffer,
+) -> Check {
     let example = EXAMPLE_DATA;
     let whole = in_pieces(new, buf, &example, 120);
     let expected = whole.first;
@@ -177,7 +183,7 @@ fn with_a_damaged_byte(data: &mut Data, at: usize) -> usize {
     put(data, n, buffer::part(&example, 16, 104))
 }
 
-pub fn a_rejected_candidate_does_not_stamp_the_next_frame(
+pub(crate) fn a_rejected_candidate_does_not_stamp_the_next_frame(
     new: Extractor,
     buf: &mut Buffer,
 ) -> Check {
@@ -269,7 +275,7 @@ fn recovers_from_every_length(
     check
 }
 
-pub fn invalid_major_sync_lengths_are_reported_and_allow_recovery(
+pub(crate) fn invalid_major_sync_lengths_are_reported_and_allow_recovery(
     new: Extractor,
     buf: &mut Buffer,
 ) -> Check {
@@ -299,7 +305,7 @@ fn empty_minor() -> [u8; 20] {
     minor
 }
 
-pub fn invalid_locked_frame_length_cannot_emit_an_empty_frame(
+pub(crate) fn invalid_locked_frame_length_cannot_emit_an_empty_frame(
     new: Extractor,
     buf: &mut Buffer,
 ) -> Check {
@@ -326,7 +332,7 @@ pub fn invalid_locked_frame_length_cannot_emit_an_empty_frame(
     check.holds(f.stream.losses.errors == 1)
 }
 
-pub fn initial_crc_failure_does_not_hide_already_buffered_frames(
+pub(crate) fn initial_crc_failure_does_not_hide_already_buffered_frames(
     new: Extractor,
     buf: &mut Buffer,
 ) -> Check {
@@ -344,7 +350,7 @@ pub fn initial_crc_failure_does_not_hide_already_buffered_frames(
     check.holds(seen.offsets[0] == 100)
 }
 
-pub fn frames_carry_their_stream_position(new: Extractor, buf: &mut Buffer) -> Check {
+pub(crate) fn frames_carry_their_stream_position(new: Extractor, buf: &mut Buffer) -> Check {
     let example = EXAMPLE_DATA;
     let mut data = [0u8; 512];
     let n = put(&mut data, 0, &example);
@@ -355,7 +361,7 @@ pub fn frames_carry_their_stream_position(new: Extractor, buf: &mut Buffer) -> C
     check.holds(seen.faithful)
 }
 
-pub fn skip_invalid_data(new: Extractor, buf: &mut Buffer) -> Check {
+pub(crate) fn skip_invalid_data(new: Extractor, buf: &mut Buffer) -> Check {
     let example = EXAMPLE_DATA;
     let junk = [0xFFu8, 0xFF, 0xFF, 0xFF];
     let mut data = [0u8; 512];

@@ -7,11 +7,11 @@ use rules::Unit;
 use rules::Waiting;
 
 // Room for a test's data, and for a reader: the first test pushes 120,000 bytes at once.
-pub type Data = [u8; 512];
+pub(crate) type Data = [u8; 512];
 
-pub type Buffer = [u8; 131072];
+pub(crate) type Buffer = [u8; 131072];
 
-pub struct Seen {
+pub(crate) struct Seen {
     pub reader: Extractor,
     pub units: u64,
     pub offsets: [u64; 8],
@@ -23,7 +23,7 @@ pub struct Seen {
 }
 
 // A reader's buffer.
-pub fn buffer() -> Buffer
+pub(crate) fn buffer() -> Buffer
     ensures { λ r. ⌜ 131072 ≡ length r ⌝ }
 {
     [0; 131072]
@@ -36,7 +36,7 @@ struct Noted {
 }
 
 // Nothing seen yet.
-pub fn nothing(reader: Extractor) -> Seen {
+pub(crate) fn nothing(reader: Extractor) -> Seen {
     Seen {
         reader,
         units: 0,
@@ -50,28 +50,28 @@ pub fn nothing(reader: Extractor) -> Seen {
 }
 
 // A piece for the reader. A refusal would leave it without the bytes, and the units would be missed.
-pub fn push(reader: Extractor, buf: &mut Buffer, piece: &[u8]) -> Extractor {
+pub(crate) fn push(reader: Extractor, buf: &mut Buffer, piece: &[u8]) -> Extractor {
     let pushed = reader.push_bytes(buf, piece);
     pushed.extractor
 }
 
 // Puts a word into a test's data.
-pub fn put(data: &mut Data, at: usize, word: &[u8]) -> usize {
+pub(crate) fn put(data: &mut Data, at: usize, word: &[u8]) -> usize {
     text::put(data, at, word)
 }
 
 // n bytes of a test's data, from a place on.
-pub fn stretch(data: &Data, at: usize, n: usize) -> &[u8] {
+pub(crate) fn stretch(data: &Data, at: usize, n: usize) -> &[u8] {
     buffer::part(data, at, n)
 }
 
 // The first n bytes of a test's data.
-pub fn front(data: &Data, n: usize) -> &[u8] {
+pub(crate) fn front(data: &Data, n: usize) -> &[u8] {
     buffer::part(data, 0, n)
 }
 
 // The unit's bytes.
-pub fn bytes_of(buf: &Buffer, unit: Unit, start: usize) -> &[u8] {
+pub(crate) fn bytes_of(buf: &Buffer, unit: Unit, start: usize) -> &[u8] {
     buffer::part(buf, start, unit.length as usize)
 }
 
@@ -157,7 +157,7 @@ fn note(seen: Seen, data: &[u8], buf: &Buffer, answer: Answer) -> Noted {
 }
 
 // Requests until the iterator would end: until 8. No test has 1,000 answers.
-pub fn all(seen: Seen, data: &[u8], buf: &Buffer) -> Seen {
+pub(crate) fn all(seen: Seen, data: &[u8], buf: &Buffer) -> Seen {
     let mut seen = seen;
     let mut turns: u64 = 1000;
     while turns > 0 {
@@ -185,7 +185,7 @@ fn piece_length(size: usize, at: usize, end: usize) -> usize {
 }
 
 // Every unit of the data, handed over in pieces of a size.
-pub fn in_pieces(new: Extractor, buf: &mut Buffer, data: &[u8], size: usize) -> Seen {
+pub(crate) fn in_pieces(new: Extractor, buf: &mut Buffer, data: &[u8], size: usize) -> Seen {
     let mut seen = nothing(new);
     let mut at = 0;
     let mut turns: u64 = 1000;

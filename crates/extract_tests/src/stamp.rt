@@ -48,7 +48,7 @@ fn same_flags(a: Timestamp, b: Timestamp) -> bool {
     a.dropframe == b.dropframe
 }
 
-pub fn is_stamp(a: Waiting) -> bool {
+pub(crate) fn is_stamp(a: Waiting) -> bool {
     if let Waiting::Stamp(_) = a {
         true
     } else {
@@ -57,7 +57,7 @@ pub fn is_stamp(a: Waiting) -> bool {
 }
 
 // Both there and the same.
-pub fn same_waiting(a: Waiting, b: Waiting) -> bool {
+pub(crate) fn same_waiting(a: Waiting, b: Waiting) -> bool {
     let Waiting::Stamp(s) = a else {
         return false;
     };

@@ -1,6 +1,6 @@
 -- A reader with its lent buffer, and its calls as the code's contracts give them: definitions only.
 use Prim.Native.Nat.{ℕ}
-use mathlib.Core.Bool.{Bool, true, false, not}
+use mathlib.Core.Bool.{not}
 use mathlib.Core.List.{List}
 use lib.Dec.{eqb}
 use lib.ListN.{length}
@@ -13,7 +13,7 @@ use Rattle.extract.specs.declared.Answer.{Answer}
 use Rattle.extract.specs.declared.Answer.the-variants.{Unit, InvalidAccessUnitLength, ParityCheckFailed, InsufficientData, Quiet, Record}
 use Rattle.extract.specs.Record.{unread, opened}
 use Rattle.extract.specs.Fits.{Fits}
-use Rattle.extract.specs.Calls.{pushAnswerOf, onAccepted, pushedOf, bufferOf, askedOf}
+use Rattle.extract.specs.Calls.{onAccepted, pushedOf, bufferOf, askedOf}
 
 -- the record that the last call handed back, and the buffer as it left it: "each call given the last record, its lent buffer written by no one
 -- else"

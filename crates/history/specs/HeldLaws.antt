@@ -1,26 +1,25 @@
 -- The reader's calls follow the rules: a piece that is taken stands behind the unread bytes, a request is the rules' request, and a record that
 -- fits still fits.
-use Prim.Native.Nat.{ℕ, zero, suc, _+_, _-_, _≤_, _<_}
+use Prim.Native.Nat.{ℕ, _+_, _-_, _≤_, _<_}
 use native.Mathlib.Omega.{arith}
 use mathlib.Core.Path.{_≡_, refl, sym, ap, ap₂, _∙_, subst}
 use mathlib.Core.Bool.{Bool, true, false, not, false≢true}
 use mathlib.Core.List.{List, [], _++_}
 use lib.Dec.{leb, ltb, eqb}
-use lib.ListN.{length, take, drop, length-append, length-take, length-drop}
-use lib.Seq.{drop-at, length-take-le, take-append-seam}
-use borrow.Author.Tests.{leb-true, leb-false, ltb-true, eqb-true, eqb-false, eq-eqb, ne-eqb}
+use lib.ListN.{length, take, drop, length-append, length-drop}
+use borrow.Author.Tests.{leb-true, ltb-true, eqb-false, ne-eqb}
 use Rattle.laws.specs.Pick.{pick}
 use Rattle.laws.specs.Parts.{part, length-part, drop-part}
-use Rattle.machine.specs.Step.{Step, dry, quiet, speak, Rests}
+use Rattle.machine.specs.Step.{Rests}
 use Rattle.machine.specs.Scan as Scan
 use Rattle.machine.specs.Scan.{request, ranDry, spoke, Asks, runs-dry, goes-on, speaks}
 use Rattle.machine.specs.ScanLaws.{request-asks}
-use Rattle.machine.specs.History.{Pushed, taken, refused, Asked, dried, told, Grown, Takes, heard, Stays, Answers, Follows, Opens, Log, afterNext, turn, ask}
+use Rattle.machine.specs.History.{taken, refused, Grown, Takes, Answers, Follows, Opens, Log, afterNext, turn, ask}
 use Rattle.machine.specs.Ask.{moved}
-use Rattle.machine.specs.Always.{AfterStep, AfterRequest, OnSpeak, Consumed}
+use Rattle.machine.specs.Always.{AfterRequest, OnSpeak, Consumed}
 use Rattle.machine.specs.AlwaysLaws.{after-map, request-always, request-consumes}
 use Rattle.machine.specs.Lent.{paste}
-use Rattle.machine.specs.LentLaws.{length-paste, part-grows-in-front, part-grows-behind}
+use Rattle.machine.specs.LentLaws.{length-paste, part-pasted}
 use Rattle.crc.specs.declared.Algorithm.{Algorithm}
 use Rattle.rules.specs.declared.Stream.{Stream}
 use Rattle.rules.specs.declared.Verdict.{Verdict}
@@ -35,12 +34,11 @@ use Rattle.buffer.specs.Laws.{start-inside}
 use Rattle.extract.specs.declared.Extractor.{Extractor}
 use Rattle.extract.specs.declared.PushAnswer.{PushAnswer}
 use Rattle.extract.specs.declared.PushAnswer.the-variants.{Accepted, Record, Pushes, Total, Room}
-use Rattle.extract.specs.declared.Asked.{Asked as TheAsked}
 use Rattle.extract.specs.declared.Answer.{Answer}
 use Rattle.extract.specs.declared.Answer.the-variants.{Unit as AUnit, InvalidAccessUnitLength, ParityCheckFailed, InsufficientData, Quiet, Record as BadRecord}
-use Rattle.extract.specs.Record.{most, roomFits, fitsOf, unreadOf, unread, opened}
-use Rattle.extract.specs.Fits.{Itself, Fits, fits-says, fits-when}
-use Rattle.extract.specs.Calls.{pushAnswerOf, placeOf, grown, onAccepted, pushedOf, bufferOf, leftAt, dryAt, spokenAt, answerOf, answeredOf, askedOf}
+use Rattle.extract.specs.Record.{most, fitsOf, unreadOf, unread}
+use Rattle.extract.specs.Fits.{Fits, fits-when}
+use Rattle.extract.specs.Calls.{pushAnswerOf, placeOf, grown, onAccepted, pushedOf, bufferOf, leftAt, answerOf, answeredOf, askedOf}
 use Rattle.history.specs.Held.{Held, pushOf, tellOf, nextOf, calls, openedOn, view}
 
 -- 1. A PIECE
@@ -63,10 +61,6 @@ unfolding pushAnswerOf
 accepted-says r n k e =
     let w = accepted-by (fitsOf r n) (ltb (r .unanswered) 65535) (leb (r .accepted + k) most) (leb (unreadOf r + k) n) e in
     record { pushes = ltb-true _ _ (w .0); total = leb-true _ _ (w .1); room = leb-true _ _ (w .2) }
-
--- what is put into a buffer stands there
-part-pasted : (b : List ℕ) (at : ℕ) (xs : List ℕ) → at ≤ length b → part (paste b at xs) at (length xs) ≡ xs
-part-pasted b at xs h = ap (take (length xs)) (drop-at (take at b) (xs ++ drop (at + length xs) b) at (length-take-le at b h)) ∙ take-append-seam xs (drop (at + length xs) b)
 
 module _ (h : Held) (p : List ℕ) (fit : Fits (h .extractor) (length (h .buffer))) where
   abbrev pub r : Extractor

@@ -1,23 +1,22 @@
 -- The part of the lent buffer that a request answers holds the unit's bytes.
-use Prim.Native.Nat.{ℕ, _+_, _-_, _≤_, _<_}
+use Prim.Native.Nat.{ℕ, _+_, _-_, _≤_}
 use native.Mathlib.Omega.{arith}
-use mathlib.Core.Path.{_≡_, refl, sym, ap, ap₂, _∙_, subst}
+use mathlib.Core.Path.{_≡_, refl, sym, ap, _∙_, subst}
 use mathlib.Core.Bool.{Bool, true, false}
-use mathlib.Core.List.{List, [], _++_}
-use lib.Dec.{leb, eqb}
-use lib.ListN.{length, take, drop, length-drop}
+use mathlib.Core.List.{List, []}
+use lib.Dec.{eqb}
+use lib.ListN.{length, take}
 use lib.Seq.{drop-drop}
-use borrow.Author.Tests.{le-leb, eqb-false}
+use borrow.Author.Tests.{le-leb}
 use Rattle.laws.specs.Pick.{pick}
 use Rattle.laws.specs.Parts.{part, part-part}
-use Rattle.machine.specs.Step.{Step, dry, quiet, speak}
 use Rattle.machine.specs.Scan as Scan
-use Rattle.machine.specs.Scan.{request, ranDry, spoke, Asks, runs-dry, goes-on, speaks}
+use Rattle.machine.specs.Scan.{request, ranDry, spoke, Asks, goes-on, speaks}
 use Rattle.machine.specs.ScanLaws.{request-asks}
 use Rattle.machine.specs.Always.{AfterStep, OnSpeak, Consumed, Placed}
 use Rattle.rules.specs.declared.Stream.{Stream}
 use Rattle.rules.specs.declared.Unit.{Unit as TheUnit}
-use Rattle.rules.specs.Request.{Event, handed, tooShort, failed, stepBy, reader}
+use Rattle.rules.specs.Request.{Event, handed, tooShort, failed, reader}
 use Rattle.rules.specs.RulesLaws.{reader-laws}
 use Rattle.rules.specs.FitLaws.{at, reader-counts}
 use Rattle.rules.specs.Units.{IfUnit, Hands}
@@ -25,12 +24,12 @@ use Rattle.rules.specs.OutcomeLaws.{step-hands}
 use Rattle.buffer.specs.Calls.{partOf}
 use Rattle.extract.specs.declared.Extractor.{Extractor}
 use Rattle.extract.specs.declared.Answer.{Answer}
-use Rattle.extract.specs.declared.Answer.the-variants.{Unit as AUnit, InvalidAccessUnitLength, ParityCheckFailed, InsufficientData, Quiet, Record as BadRecord}
-use Rattle.extract.specs.Record.{fitsOf, unreadOf, unread}
+use Rattle.extract.specs.declared.Answer.the-variants.{Unit as AUnit, InsufficientData, Quiet}
+use Rattle.extract.specs.Record.{unreadOf, unread}
 use Rattle.extract.specs.Fits.{Fits, fits-when}
-use Rattle.extract.specs.Calls.{answerOf, answeredOf, askedOf}
+use Rattle.extract.specs.Calls.{answeredOf, askedOf}
 use Rattle.history.specs.Held.{Held}
-use Rattle.history.specs.HeldLaws.{Left, leaves, left-length}
+use Rattle.history.specs.HeldLaws.{leaves, left-length}
 
 -- a unit is the last of what its request consumes
 asks-hand : (s s′ : Stream) (u u′ : List ℕ) (x : TheUnit) → Asks reader s u (spoke (handed x) s′ u′) → (at s ≤ x .position .0) × (x .position .0 + x .length ≡ at s′)

@@ -2,31 +2,29 @@
 -- (`open`, `push_bytes`, `next`), as their contracts give them; a history is any list of pieces and requests, each call given what the last one
 -- left. The proofs stand in HeldLaws (the calls follow the rules), in crate `rules` (what the rules keep) and in crate `machine` (any stepping
 -- reader).
-use Prim.Native.Nat.{ℕ, _+_, _-_, _*_, _≤_, _<_}
+use Prim.Native.Nat.{ℕ, _+_, _≤_, _<_}
 use native.Mathlib.Omega.{arith}
-use mathlib.Core.Path.{_≡_, refl, sym, ap, ap₂, _∙_, subst}
-use mathlib.Core.Bool.{Bool, true, false, false≢true}
+use mathlib.Core.Path.{_≡_, refl, ap}
+use mathlib.Core.Bool.{true}
 use mathlib.Core.List.{List, [], _++_}
-use lib.ListN.{length, drop}
-use Rattle.laws.specs.Pick.{pick}
+use lib.ListN.{length}
 use Rattle.laws.specs.Parts.{part}
-use Rattle.machine.specs.Scan.{Result, Scans, scan}
+use Rattle.machine.specs.Scan.{Result, Scans}
 use Rattle.machine.specs.ScanLaws.{scan-scans, scans-only}
 use Rattle.machine.specs.Always.{Every, Ordered}
-use Rattle.machine.specs.AlwaysLaws.{history-always, dry-bounded}
+use Rattle.machine.specs.AlwaysLaws.{history-always}
 use Rattle.machine.specs.History.{Call, piece, ask, Log, history, play, turn, requests, Begins, Demand3, shown}
 use Rattle.machine.specs.HistoryLaws as Laws
 use Rattle.crc.specs.declared.Algorithm.{Algorithm}
 use Rattle.rules.specs.declared.Stream.{Stream}
 use Rattle.rules.specs.declared.Unit.{Unit as TheUnit}
-use Rattle.rules.specs.Request.{Event, handed, reader, sizeOf, new, freshScan}
+use Rattle.rules.specs.Request.{Event, reader, sizeOf, new, freshScan}
 use Rattle.rules.specs.RulesLaws.{reader-laws}
 use Rattle.rules.specs.RestLaws.{rest-holds-at-most-8189}
 use Rattle.rules.specs.Units.{IfUnit, Promised, Follows as Behind, Indexed}
 use Rattle.rules.specs.StampLaws.{standing-lasts}
 use Rattle.rules.specs.HandedLaws.{units-stand, units-apart, units-numbered, new-stands}
 use Rattle.buffer.specs.Calls.{partOf}
-use Rattle.extract.specs.declared.Extractor.{Extractor}
 use Rattle.extract.specs.declared.Answer.the-variants.{Unit as AUnit}
 use Rattle.extract.specs.Calls.{askedOf}
 use Rattle.extract.specs.Record.{fitsOf, unreadOf, unread, errorsOf}

@@ -1,18 +1,17 @@
 -- What each way out of the search's functions shows.
 use Prim.Native.Nat.{ℕ, zero, suc, _+_, _-_, _*_, _/_, _%_, _≤_, _<_}
 use native.Mathlib.Omega.{arith}
-use native.Mathlib.Numerals.{add-one}
 use mathlib.Core.Path.{_≡_, refl, sym, ap, ap₂, _∙_}
 use mathlib.Core.Bool.{Bool, true, false}
-use mathlib.Core.Option.{Option, none, some, Option·some-ne-none}
+use mathlib.Core.Option.{none, some, Option·some-ne-none}
 use mathlib.Core.List.{List}
-use lib.Bits.{bitAnd, and-le-r}
+use lib.Bits.{bitAnd}
 use lib.Dec.{leb, ltb, eqb}
 use lib.ListN.{length, take, drop, length-take, length-drop}
 use lib.Seq.{getD-take}
 use borrow.Author.Tests.{eq-eqb, ne-eqb, le-leb, lt-leb, lt-ltb, le-ltb, leb-true, leb-false}
 use Rattle.laws.specs.Parts.{byteAt, part, part-part}
-use Rattle.laws.specs.First.{Place, At, Nowhere, firstFrom, first-here, first-later, first-none}
+use Rattle.laws.specs.First.{Place, At, Nowhere, firstFrom, first-none, scan-end, scan-here, scan-later}
 use Rattle.laws.specs.Words.{word}
 use Rattle.machine.specs.Ask.{Ask, either, first, _>>=_, Eat, eat, ask, decide}
 use Rattle.machine.specs.AskLaws.{ask-done, ask-byte, ask-byte-missing, ask-front, ask-front-missing, ask-true, ask-false, thenAsk, ask-then, decide-made, decide-unasked}
@@ -36,17 +35,14 @@ use Rattle.judging.specs.Means.{lengthOf, SyncIs}
 -- the scan: the first of all places is the first of those from i on
 module _ (p : ℕ → Bool) (places i : ℕ) {x : Place} (same : x ≡ firstFrom p i (places - i)) where
   pub none-left : places ≤ i → Nowhere ≡ x
-  none-left h = let e : places - i ≡ 0 = omega arith in sym (same ∙ ap (firstFrom p i) e ∙ first-none p i)
+  none-left h = sym (same ∙ scan-end p i places h)
 
   module _ (h : i < places) {b : Bool} (eb : b ≡ p i) where
-    split : places - i ≡ suc (places - (i + 1))
-    split = omega arith
-
     pub found-here : b ≡ true → At i ≡ x
-    found-here t = sym (same ∙ ap (firstFrom p i) split ∙ first-here p i _ (sym eb ∙ t))
+    found-here t = sym (same ∙ scan-here p i places h (sym eb ∙ t))
 
     pub found-later : b ≡ false → x ≡ firstFrom p (i + 1) (places - (i + 1))
-    found-later f = same ∙ ap (firstFrom p i) split ∙ first-later p i _ (sym eb ∙ f) ∙ rw add-one
+    found-later f = same ∙ scan-later p i places h (sym eb ∙ f)
 
 pub find-begins : (u : List ℕ) → find u ≡ firstFrom (candidateAt u) 0 (length u - 7 - 0)
 unfolding find

@@ -1,9 +1,7 @@
 -- What each turn and each way out of the unit's functions shows.
-use Prim.Native.Nat.{ℕ, zero, suc, _+_, _-_, _*_, _/_, _%_, _≤_, _<_}
+use Prim.Native.Nat.{ℕ, suc, _+_, _-_, _*_, _/_, _%_, _≤_, _<_}
 use native.Mathlib.Omega.{arith}
-use native.Mathlib.Nat.{not-suc-le-zero}
-use native.Mathlib.Numerals.{sub-one}
-use mathlib.Core.Path.{_≡_, refl, sym, ap, ap₂, _∙_}
+use mathlib.Core.Path.{_≡_, refl, sym, ap, _∙_}
 use mathlib.Core.Bool.{Bool, true, false, _&&_, and-false}
 use mathlib.Core.Option.{Option, none, some}
 use mathlib.Core.List.{List}
@@ -13,9 +11,9 @@ use lib.ListN.{length}
 use borrow.Author.Tests.{eq-eqb, ne-eqb, le-leb, lt-leb, lt-ltb, le-ltb, leb-true, leb-false}
 use Rattle.laws.specs.Parts.{byteAt}
 use Rattle.laws.specs.Words.{word}
-use Rattle.machine.specs.Ask.{Ask, byte, either, peek, _>>=_, Eat, eat, ask, arrived, decide}
+use Rattle.laws.specs.Turns.{less-one}
+use Rattle.machine.specs.Ask.{Ask, byte, either, _>>=_, Eat, eat, ask, arrived, decide}
 use Rattle.machine.specs.AskLaws.{ask-done, ask-byte, ask-byte-missing, ask-true, ask-false, thenAsk, ask-then, decide-made, decide-waits, decide-unasked}
-use Rattle.rules.specs.declared.Loss.{Loss}
 use Rattle.rules.specs.declared.Loss.the-variants.{Mismatch, Parity}
 use Rattle.rules.specs.declared.Verdict.{Verdict}
 use Rattle.rules.specs.declared.Verdict.the-variants.{Lost, Short, Whole}
@@ -27,7 +25,7 @@ use Rattle.judging.specs.declared.search.Length.{Length}
 use Rattle.judging.specs.declared.search.Length.the-variants.{Known, Missing as Unsaid}
 use Rattle.judging.specs.declared.unit.Walk.{Walk}
 use Rattle.judging.specs.declared.unit.Walk.the-variants.{Ends, Missing as Cut}
-use Rattle.judging.specs.Means.{lengthOf, walkOf, endOf, SyncIs}
+use Rattle.judging.specs.Means.{lengthOf, walkOf, endOf}
 
 -- THE DIRECTORY: what is asked of all entries is asked of those that are left
 module _ (u : List ℕ) (at p k : ℕ) {x : Option End} (same : x ≡ ask (directory k at p) u) where
@@ -36,11 +34,8 @@ module _ (u : List ℕ) (at p k : ℕ) {x : Option End} (same : x ≡ ask (direc
   no-entries-left h = let z : k ≡ 0 = omega arith in sym (same ∙ ap (λ (n : ℕ). ask (directory n at p) u) z ∙ ask-done _ u)
 
   module _ (more : 0 < k) where
-    split : k ≡ suc (k - 1)
-    split = omega arith
-
     entry : x ≡ ask (directory (suc (k - 1)) at p) u
-    entry = same ∙ ap (λ (n : ℕ). ask (directory n at p) u) split
+    entry = same ∙ ap (λ (n : ℕ). ask (directory n at p) u) (less-one k more)
 
     pub entry-cut : length u < at + 2 → none ≡ x
     unfolding directory

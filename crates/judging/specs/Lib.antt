@@ -1,1 +1,2 @@
+-- What stands at the front of the unread bytes, cited by the contracts.
 pub mod Means

@@ -1,7 +1,6 @@
 // Document 01, "A request": the directory, the parity, the unit, each on the unread bytes; and whether a unit, handed out, is major.
 ghost use mathlib.Core.Path.{_≡_};
-ghost use mathlib.Core.Bool.{Bool};
-ghost use Prim.Native.Nat.{_+_, _*_, _≤_, _<_};
+ghost use Prim.Native.Nat.{_+_, _≤_, _<_};
 ghost use lib.ListN.{length};
 ghost use Rattle.machine.specs.Ask.{ask, decide};
 ghost use Rattle.rules.specs.Request.{directory, even as evenOf, closing as closingOf, body as bodyOf, unit as unitOf};

@@ -1,1 +1,2 @@
+-- The call has one answer.
 pub mod One

@@ -1,1 +1,2 @@
+-- When one moment has passed another, cited by the contract.
 pub mod Kinds

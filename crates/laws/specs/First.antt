@@ -1,11 +1,13 @@
 -- The first place with a property. A scan that stops at its first match yields this place.
 use mathlib.Core.Path.{_≡_, refl, sym, ap, _∙_}
 use mathlib.Core.Bool.{Bool, true, false, true≢false}
-use Prim.Native.Nat.{ℕ, zero, suc, _+_, _≤_, _<_}
+use Prim.Native.Nat.{ℕ, zero, suc, _+_, _-_, _≤_, _<_}
 use native.Mathlib.Omega.{arith}
 use native.Mathlib.Nat.{eq-or-lt-of-le}
+use native.Mathlib.Numerals.{add-one}
 use mathlib.Core.Logic.{⊎-elim}
 use Rattle.laws.specs.Pick.{pick}
+use Rattle.laws.specs.Turns.{one-left}
 
 pub data Place : Type 0 where
   At : ℕ → Place
@@ -35,6 +37,18 @@ first-later p i n e = rw e
 pub first-none : (p : ℕ → Bool) (i : ℕ) → firstFrom p i 0 ≡ Nowhere
 unfolding firstFrom
 first-none p i = refl
+
+-- for a scan of the places before an end: the first of all is the first of those from i on
+module _ (p : ℕ → Bool) (i end : ℕ) where
+  pub scan-end : end ≤ i → firstFrom p i (end - i) ≡ Nowhere
+  scan-end h = let e : end - i ≡ 0 = omega arith in ap (firstFrom p i) e ∙ first-none p i
+
+  module _ (h : i < end) where
+    pub scan-here : p i ≡ true → firstFrom p i (end - i) ≡ At i
+    scan-here t = ap (firstFrom p i) (one-left i end h) ∙ first-here p i _ t
+
+    pub scan-later : p i ≡ false → firstFrom p i (end - i) ≡ firstFrom p (i + 1) (end - (i + 1))
+    scan-later f = ap (firstFrom p i) (one-left i end h) ∙ first-later p i _ f ∙ rw add-one
 
 reached : (p : ℕ → Bool) (i n k : ℕ) → IsFirst p i n k → p i ≡ true → i ≡ k
 reached p i n k f e =

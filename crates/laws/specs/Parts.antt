@@ -1,10 +1,10 @@
 -- Bytes of a list and parts of it. What stands inside a list stands there whatever is put behind it.
-use mathlib.Core.Path.{_≡_, refl, sym, ap, _∙_}
+use mathlib.Core.Path.{_≡_, sym, ap, _∙_}
 use mathlib.Core.List.{List, [], _∷_, _++_}
-use Prim.Native.Nat.{ℕ, zero, suc, _+_, _-_, _≤_, _<_, min}
+use Prim.Native.Nat.{ℕ, zero, suc, _+_, _-_, _≤_, _<_}
 use native.Mathlib.Omega.{arith}
-use lib.ListN.{length, replicate, getD, take, drop, length-replicate, length-take, length-drop, length-append, List·getD-append, List·getD-eq-default}
-use lib.Seq.{take-append-le, drop-append-le, getD-take, getD-drop, take-take, drop-drop, take-add, take-length, take-nil}
+use lib.ListN.{length, replicate, getD, take, drop, length-replicate, length-take, length-drop, List·getD-append}
+use lib.Seq.{take-append-le, drop-append-le, take-take, drop-drop, take-nil}
 
 -- the byte at a place, 0 past the end
 abbrev pub byteAt : List ℕ → ℕ → ℕ
@@ -35,13 +35,11 @@ module _ (s : List ℕ) (at n : ℕ) (inside : at + n ≤ length s) where
   pub part-further : (v : List ℕ) → part (s ++ v) at n ≡ part s at n
   part-further v = ap (take n) (drop-append-le at s v (omega arith)) ∙ take-append-le n (drop at s) v (rw length-drop (omega arith))
 
-pub byteAt-part : (s : List ℕ) (at n i : ℕ) → i < n → byteAt (part s at n) i ≡ byteAt s (at + i)
-byteAt-part s at n i h = getD-take n (drop at s) i 0 h ∙ getD-drop at s i 0
-
 pub byteAt-further : (s v : List ℕ) (i : ℕ) → i < length s → byteAt (s ++ v) i ≡ byteAt s i
 byteAt-further s v i h = List·getD-append s v 0 i h
 
-drop-take : (k n : ℕ) (t : List ℕ) → drop k (take n t) ≡ take (n - k) (drop k t)
+-- what is left of the first n behind the first k of them
+pub drop-take : (k n : ℕ) (t : List ℕ) → drop k (take n t) ≡ take (n - k) (drop k t)
 drop-take zero n t = let e : n - 0 ≡ n = omega arith in rw e
 drop-take (suc k) zero t = let e : 0 - suc k ≡ 0 = omega arith in rw e
 drop-take (suc k) (suc n) [] = sym (take-nil (suc n - suc k))
@@ -54,10 +52,3 @@ drop-part s at n k = drop-take k n (drop at s) ∙ ap (take (n - k)) (drop-drop 
 -- a part of a part, counted from the list's own beginning
 pub part-part : (s : List ℕ) (at n i m : ℕ) → i + m ≤ n → part (part s at n) i m ≡ part s (at + i) m
 part-part s at n i m h = ap (take m) (drop-part s at n i) ∙ take-take m (n - i) (drop (at + i) s) (omega arith)
-
--- two parts that meet are one
-pub part-joins : (s : List ℕ) (at n m : ℕ) → part s at n ++ part s (at + n) m ≡ part s at (n + m)
-part-joins s at n m = ap (λ t. part s at n ++ take m t) (sym (drop-drop n at s)) ∙ sym (take-add n m (drop at s))
-
-pub part-whole : (s : List ℕ) → part s 0 (length s) ≡ s
-part-whole s = take-length s

@@ -1,6 +1,6 @@
--- Choosing by a test. Every rule of document 01 that says "if" is a `pick`.
+-- Choosing by a test, and what the answer of two tests tells of each. Every rule of document 01 that says "if" is a `pick`.
 use mathlib.Core.Path.{_≡_, refl, sym, _∙_}
-use mathlib.Core.Bool.{Bool, true, false}
+use mathlib.Core.Bool.{Bool, true, false, _&&_, false≢true}
 
 -- the first where the test holds, else the second
 abbrev pub pick : {A : Type 0} → Bool → A → A → A
@@ -29,14 +29,19 @@ told e t = sym e ∙ t
 -- both tests hold where the second is asked only after the first
 pub both : (b x : Bool) → pick b x false ≡ true → (b ≡ true) × (x ≡ true)
 both true x e = (refl, e)
-both false x e = (cc, cc)
+both false x e = absurd (false≢true e)
 
 pub both-hold : {b x : Bool} → b ≡ true → x ≡ true → pick b x false ≡ true
 both-hold {b} {x} p q = rw (p, q)
 
+-- the same where the two are joined by "and"
+pub both-joined : (a b : Bool) → (a && b) ≡ true → (a ≡ true) × (b ≡ true)
+both-joined true b e = (refl, e)
+both-joined false b e = absurd (false≢true e)
+
 -- a test that must fail first
 pub passed : (b x : Bool) → pick b false x ≡ true → (b ≡ false) × (x ≡ true)
-passed true x e = (cc, cc)
+passed true x e = absurd (false≢true e)
 passed false x e = (refl, e)
 
 -- the second of two tests is the answer where the first holds

@@ -1,8 +1,8 @@
 -- Arithmetic modulo powers of two.
-use Prim.Native.Nat.{ℕ, zero, suc, _+_, _-_, _*_, _/_, _%_, _^_, _≤_, _<_}
+use Prim.Native.Nat.{ℕ, _+_, _-_, _*_, _%_, _^_, _<_}
 use native.Mathlib.Omega.{arith}
-use native.Mathlib.Nat.{mod-lt, mod-eq-of-lt, add-mod-mod, mod-add-mod, add-mod, add-mod-right, le-of-lt, lt-of-le-of-lt, mul-le-mul-left, mul-lt-mul-of-pos-right, mul-add-mod-self-right}
-use mathlib.Core.Path.{_≡_, refl, sym, ap, _∙_, subst⁻¹}
+use native.Mathlib.Nat.{mod-lt, add-mod-mod, mod-add-mod, add-mod-right, le-of-lt, lt-of-le-of-lt, mul-le-mul-left, mul-lt-mul-of-pos-right}
+use mathlib.Core.Path.{_≡_, sym, ap, _∙_, subst⁻¹}
 use lib.Pow.{pow-pos, pow-add}
 
 -- a minus b, modulo 2^k

@@ -1,12 +1,11 @@
 -- XOR: the library has its commutativity and its halves; associativity and what follows from it are here.
-use Prim.Native.Nat.{ℕ, zero, suc, _+_, _*_, _/_, _%_, _^_, _<_, _≤_}
+use Prim.Native.Nat.{ℕ, zero, suc, _+_, _*_, _/_, _%_, _<_}
 use native.Mathlib.Omega.{arith}
 use native.Mathlib.Nat.{mod-lt}
 use mathlib.Core.Path.{_≡_, refl, sym, ap, ap₂, _∙_}
-use mathlib.Core.List.{List, [], _∷_, _++_}
+use mathlib.Core.List.{List, [], _∷_}
 use lib.Arith.{bin-ind}
-use lib.ListN.{length}
-use lib.Bits.{bitXor, differ, xor-step, xor-shr, xor-mod, xor-self, xor-zero-l, xor-zero-r, xor-comm, xor-lt, xor-block}
+use lib.Bits.{bitXor, differ, xor-step, xor-shr, xor-comm}
 
 differ-lt : (x y : ℕ) → x < 2 → y < 2 → differ x y < 2
 differ-lt zero y h k = k
@@ -45,13 +44,6 @@ xor-assoc =
     ∙ ap₂ (λ (x y : ℕ). bitXor x (c / 2) * 2 + differ y (c % 2)) (xor-half n b) (xor-bit n b)
     ∙ ap₂ (λ (x y : ℕ). x * 2 + y) (ih (b / 2) (c / 2)) (differ-assoc (n % 2) (b % 2) (c % 2) (bit-lt n) (bit-lt b) (bit-lt c))
     ∙ sym (xor-step n (bitXor b c) ∙ ap₂ (λ (x y : ℕ). bitXor (n / 2) x * 2 + differ (n % 2) y) (xor-half b c) (xor-bit b c)))
-
--- what is XORed in twice is gone
-pub xor-undone : (a b : ℕ) → bitXor (bitXor a b) b ≡ a
-xor-undone a b = xor-assoc a b b ∙ ap (bitXor a) (xor-self b) ∙ xor-zero-r a
-
-pub xor-cancel : (a b c : ℕ) → bitXor a c ≡ bitXor b c → a ≡ b
-xor-cancel a b c e = sym (xor-undone a c) ∙ ap (λ x. bitXor x c) e ∙ xor-undone b c
 
 -- four in any grouping: (a b) (c d) as (a c) (b d)
 pub xor-four : (a b c d : ℕ) → bitXor (bitXor a b) (bitXor c d) ≡ bitXor (bitXor a c) (bitXor b d)

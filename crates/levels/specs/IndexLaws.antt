@@ -8,6 +8,7 @@ use lib.ListN.{getD}
 use lib.Dec.{eqb}
 use borrow.Author.Tests.{eqb-true, eqb-false}
 use Rattle.laws.specs.Pick.{both, both-hold}
+use Rattle.laws.specs.Turns.{less-one}
 use Rattle.levels.specs.Index.{five, four, every}
 
 below-top : (n k : ℕ) → k < suc n → (k ≡ n → ⊥) → k < n
@@ -29,9 +30,6 @@ pub every-holds : (n : ℕ) (p : ℕ → Bool) → ((k : ℕ) → k < n → p k 
 unfolding every
 every-holds zero p h = refl
 every-holds (suc n) p h = both-hold (h n (omega arith)) (every-holds n p (λ k g. h k (omega arith)))
-
-pub less-one : (n : ℕ) → 0 < n → n ≡ suc (n - 1)
-less-one n h = omega arith
 
 -- a loop from the top: the whole is what is left to test
 module _ {whole : Bool} (n : ℕ) (p : ℕ → Bool) (same : whole ≡ every n p) where

@@ -5,6 +5,7 @@ use mathlib.Core.Path.{_≡_, refl, ap, _∙_}
 use mathlib.Core.Bool.{Bool, true, false}
 use mathlib.Core.List.{List, []}
 use lib.Dec.{leb}
+use Rattle.laws.specs.Turns.{less-one}
 use Rattle.rules.specs.declared.Unit.{Unit as TheUnit}
 use Rattle.extract.specs.declared.Extractor.{Extractor}
 use Rattle.extract.specs.declared.Asked.{Asked}
@@ -47,9 +48,6 @@ module _ (d : List ℕ) (at : ℕ) (a : Answer) (position : ℕ) where
   puts-refused e = puts-nothing d at _ (ap (λ x. wordsOf x position) e)
 
 -- the gathering: what it comes to is what is left to gather
-less-one : (n : ℕ) → 0 < n → n ≡ suc (n - 1)
-less-one n h = omega arith
-
 abbrev Comes : Gathering → Extractor → ℕ → Ended → List ℕ → Type 0
 Comes whole r used e d = (_≡_ {A = Gathered} (record { reader = r; used = used; ended = e }) (whole .gathered)) × (d ≡ whole .holds)
 

@@ -2,7 +2,7 @@
 use Prim.Native.Nat.{ℕ, zero, suc, _+_, _/_, _%_, _^_, _*_, _≤_, _<_}
 use native.Mathlib.Nat.{pow-suc, add-zero}
 use native.Mathlib.Omega.{arith}
-use borrow.Author.Tests.{le-leb, ltb-false}
+use borrow.Author.Tests.{ltb-false}
 use mathlib.Core.Path.{_≡_, refl, sym, ap, ap₂, _∙_}
 use mathlib.Core.Bool.{Bool, true, false}
 use mathlib.Core.List.{List, [], _∷_, _++_, append-assoc}
@@ -13,22 +13,14 @@ use Rattle.laws.specs.Pick.{pick}
 use Rattle.rules.specs.declared.Unit.{Unit as TheUnit}
 use Rattle.rules.specs.declared.Waiting.{Waiting}
 use Rattle.rules.specs.declared.Waiting.the-variants.{Nothing, Stamp}
-use Rattle.text.specs.Put.{putOf, putEnd, decimalIn, decimalOf}
+use Rattle.text.specs.Put.{putOf, decimalIn, decimalOf}
+use Rattle.text.specs.PutLaws.{put-room, end-room}
 use Rattle.lines.specs.Gather.{sheet}
 use Rattle.lines.specs.Lines.{badText, endText, kindText, stampText, pairLineWords, unitWords, joined, unitLine, badLine, endLine, puts}
 
 -- a word that has room
-module _ (d : List ℕ) (at : ℕ) (w : List ℕ) (room : at + length w ≤ length d) where
-  pub put-is : putOf d at w ≡ paste d at w (length w)
-  unfolding putOf
-  put-is = rw (le-leb _ _ room)
-
-  end-is : putEnd (length d) at (length w) ≡ at + length w
-  unfolding putEnd
-  end-is = rw (le-leb _ _ room)
-
-  pub length-put : length (putOf d at w) ≡ length d
-  length-put = ap length put-is ∙ length-paste d at w (length w) room (omega arith)
+pub length-put : (d : List ℕ) (at : ℕ) (w : List ℕ) → at + length w ≤ length d → length (putOf d at w) ≡ length d
+length-put d at w room = ap length (sym (put-room d w at room)) ∙ length-paste d at w (length w) room (omega arith)
 
 paste-joins : (d : List ℕ) (at : ℕ) (w v : List ℕ) → at + length w + length v ≤ length d
     → paste (paste d at w (length w)) (at + length w) v (length v) ≡ paste d at (w ++ v) (length (w ++ v))
@@ -46,13 +38,13 @@ put-joins : (d : List ℕ) (at : ℕ) (w v : List ℕ) → at + length w + lengt
 put-joins d at w v room =
     let whole : length (w ++ v) ≡ length w + length v = length-append w v in
     let l = length-put d at w (omega arith) in
-    put-is (putOf d at w) (at + length w) v (omega arith)
-    ∙ ap (λ (b : List ℕ). paste b (at + length w) v (length v)) (put-is d at w (omega arith))
+    sym (put-room (putOf d at w) v (at + length w) (omega arith))
+    ∙ ap (λ (b : List ℕ). paste b (at + length w) v (length v)) (sym (put-room d w at (omega arith)))
     ∙ paste-joins d at w v room
-    ∙ sym (put-is d at (w ++ v) (omega arith))
+    ∙ put-room d (w ++ v) at (omega arith)
 
 put-nothing : (d : List ℕ) (at : ℕ) → at ≤ length d → d ≡ putOf d at []
-put-nothing d at h = paste-zero d at [] ∙ sym (put-is d at [] (omega arith))
+put-nothing d at h = paste-zero d at [] ∙ put-room d [] at (omega arith)
 
 -- THE WORDS ARE ONE WORD
 pub puts-whole : (ws : List (List ℕ)) (d : List ℕ) (at : ℕ) → at + length (joined ws) ≤ length d → puts d at ws ≡ sheet (putOf d at (joined ws)) (at + length (joined ws))
@@ -61,7 +53,7 @@ puts-whole [] d at room = ap₂ sheet (put-nothing d at (omega arith)) (sym (add
 puts-whole (w ∷ ws) d at room =
     let whole : length (w ++ joined ws) ≡ length w + length (joined ws) = length-append w (joined ws) in
     let l = length-put d at w (omega arith) in
-    ap (λ (k : ℕ). puts (putOf d at w) k ws) (end-is d at w (omega arith))
+    ap (λ (k : ℕ). puts (putOf d at w) k ws) (sym (end-room (length d) at (length w) (omega arith)))
     ∙ puts-whole ws (putOf d at w) (at + length w) (omega arith)
     ∙ ap₂ sheet (put-joins d at w (joined ws) (omega arith)) (omega arith)
 

@@ -33,9 +33,10 @@ use Rattle.history.specs.Held.{Held, tellOf, nextOf, pushOf, calls, openedOn, v
 use Rattle.history.specs.HeldLaws.{follows, opens as opens-right}
 use Rattle.history.specs.Promises.{log, always-fits, never-number-1, units-so-far, all-units, same-state}
 use Rattle.text.specs.Put.{putOf}
+use Rattle.text.specs.PutLaws.{put-room}
 use Rattle.lines.specs.Lines.{badText, endText, pairLineWords, unitLine, endLine, joined, Sheet, puts}
 use Rattle.lines.specs.Gather.{wordsOf, heardOf, byHeard, Gathering, sheet, written, ends, gathers, gatheredOf, endOf}
-use Rattle.lines.specs.LineLaws.{put-is, length-put, puts-whole, unit-short, pair-short, end-whole}
+use Rattle.lines.specs.LineLaws.{length-put, puts-whole, unit-short, pair-short, end-whole}
 use Rattle.lines.specs.Report.{eventWords, lineOf, textOf, isDry, Runs, opens, accepts, writes}
 use Rattle.lines.specs.declared.Heard.{Heard}
 use Rattle.lines.specs.declared.Heard.the-variants as Heard
@@ -79,7 +80,7 @@ end-taken d position errors p e len =
     let short : length w ≤ 46 = pair-short endText position errors (omega arith) p e in
     ap (λ (k : Sheet). partOf (k .holds) 0 (k .at)) (end-whole d 0 (omega arith) position errors p e)
     ∙ part-taken (putOf d 0 w) (0 + length w) (let l : length (putOf d 0 w) ≡ length d = length-put d 0 w (omega arith) in omega arith)
-    ∙ ap (take (0 + length w)) (put-is d 0 w (omega arith)) ∙ take-paste d 0 w (length w) (omega arith) (omega arith) ∙ take-length w
+    ∙ ap (take (0 + length w)) (sym (put-room d w 0 (omega arith))) ∙ take-paste d 0 w (length w) (omega arith) (omega arith) ∙ take-length w
 
 -- 2. What is told of an answer, by how it is heard.
 
@@ -295,7 +296,7 @@ module _ (a : Algorithm) (buffer : List ℕ) (low : 8192 ≤ length buffer) (hig
       let w = lineOf (event a buffer low high cs z) in
       let short : length w ≤ 75 = line-short (event a buffer low high cs z) (event-small a buffer low high cs z) in
       let there : take (at + length w) (putOf d at w) ≡ take at d ++ w =
-      ap (take (at + length w)) (put-is d at w (omega arith)) ∙ take-paste d at w (length w) (omega arith) (omega arith) ∙ ap (λ (v : List ℕ). take at d ++ v) (take-length w) in
+      ap (take (at + length w)) (sym (put-room d w at (omega arith))) ∙ take-paste d at w (length w) (omega arith) (omega arith) ∙ ap (λ (v : List ℕ). take at d ++ v) (take-length w) in
       record {
         later = s .later;
         more = event a buffer low high cs z ∷ s .more;

@@ -23,7 +23,7 @@ there-further n u v t = le-leb n (length (u ++ v)) (rw (length-append u v) (omeg
 
 module _ {A : Type 0} where
   -- An answer that waits for a test was given where the test holds.
-  pick-some : (P : Type 0) (b : Bool) (x : Option A) (a : A) → (b ≡ true → x ≡ some a → P) → pick b x none ≡ some a → P
+  pub pick-some : (P : Type 0) (b : Bool) (x : Option A) (a : A) → (b ≡ true → x ≡ some a → P) → pick b x none ≡ some a → P
   pick-some P true x a h e = h refl e
   pick-some P false x a h e = absurd (Option·none-ne-some a e)
 

@@ -1,3 +1,4 @@
+-- Any stepping reader, from a step to whole histories: definitions, each followed by its laws; then the example.
 pub mod Step
 pub mod Loop
 pub mod LoopLaws

@@ -3,7 +3,6 @@ use mathlib.Core.Path.{_≡_, refl}
 use mathlib.Core.List.{List, []}
 use Prim.Native.Nat.{ℕ, _-_}
 use lib.ListN.{length, take, drop}
-use Rattle.laws.specs.First.{At}
 use Rattle.machine.specs.Ask.{Eat, goal}
 use Rattle.machine.specs.Always.{AfterStep, AfterRequest}
 use Rattle.machine.specs.AlwaysLaws.{after-map, request-always}
@@ -12,12 +11,11 @@ use Rattle.crc.specs.declared.Algorithm.{Algorithm}
 use Rattle.timestamp.specs.declared.Timestamp.{Timestamp}
 use Rattle.timestamp.specs.declared.Parsed.the-variants.{Stamp as Parses}
 use Rattle.timestamp.specs.Timestamp.{parseOf}
-use Rattle.rules.specs.Search.{kept, find, keep}
-use Rattle.rules.specs.Request.{act, arrive, advance, reader}
+use Rattle.rules.specs.Search.{kept, keep}
+use Rattle.rules.specs.Request.{act, arrive, reader}
 use Rattle.rules.specs.RulesLaws.{reader-laws}
 use Rattle.rules.specs.StepLaws.{step, verdictStep, step-shows, moved-shows}
 use Rattle.rules.specs.StampLaws.{nothing-waits, kept-tells, stampAt-tells}
-use Rattle.rules.specs.declared.Waiting.{Waiting}
 use Rattle.rules.specs.declared.Waiting.the-variants.{Stamp as Waits}
 use Rattle.rules.specs.declared.Stream.{Stream}
 use Rattle.rules.specs.declared.Verdict.{Verdict}

@@ -1,7 +1,7 @@
 -- Laws of the search: what is found on some bytes is found with more behind them, what was thrown away hides no candidate, and a candidate
 -- that is found later reaches past the bytes searched before.
 use mathlib.Core.Path.{_≡_, refl, sym, ap, _∙_, subst}
-use mathlib.Core.Bool.{Bool, true, false, _&&_, _||_, true≢false, false≢true}
+use mathlib.Core.Bool.{Bool, true, false, _||_, true≢false}
 use mathlib.Core.List.{List, _++_}
 use mathlib.Core.Logic.{_⊎_, inl, inr, ⊎-elim}
 use Prim.Native.Nat.{ℕ, _+_, _-_, _≤_, _<_}
@@ -10,6 +10,7 @@ use native.Mathlib.Nat.{add-assoc, eq-zero-or-pos}
 use lib.ListN.{length, drop, length-append, length-drop}
 use lib.Seq.{drop-append-le, getD-drop}
 use borrow.Author.Tests.{eqb-true}
+use Rattle.laws.specs.Pick.{both-joined}
 use Rattle.laws.specs.Parts.{byteAt, byteAt-further}
 use Rattle.laws.specs.First.{Place, At, Nowhere, IsFirst, Tells, first-tells, first-unique, first-nowhere}
 use Rattle.rules.specs.Search.{isSync, candidateAt, find}
@@ -30,10 +31,6 @@ sync-has-candidate u i w =
     is-sync (byteAt u (i + 4)) (byteAt u (i + 5)) (byteAt u (i + 6)) (byteAt u (i + 7)) (w .byte0) (rw (add-assoc i 4 1) at (w .byte1)) (rw (add-assoc i 4 2) at (w .byte2))
     (rw (add-assoc i 4 3) at (w .byte3))
 
-both : (a b : Bool) → (a && b) ≡ true → (a ≡ true) × (b ≡ true)
-both true b e = (refl, e)
-both false b e = absurd (false≢true e)
-
 one-of : (a b : Bool) → (a || b) ≡ true → (a ≡ true) ⊎ (b ≡ true)
 one-of true b e = inl refl
 one-of false b e = inr e
@@ -42,9 +39,9 @@ one-of false b e = inr e
 pub candidate-has-sync : (u : List ℕ) (i : ℕ) → candidateAt u i ≡ true → SyncWord u (i + 4)
 unfolding candidateAt
 candidate-has-sync u i e =
-    let (p, e₁) = both _ _ e in
-    let (q, e₂) = both _ _ e₁ in
-    let (r, e₃) = both _ _ e₂ in
+    let (p, e₁) = both-joined _ _ e in
+    let (q, e₂) = both-joined _ _ e₁ in
+    let (r, e₃) = both-joined _ _ e₂ in
     record {
       byte0 = eqb-true (byteAt u (i + 4)) 0xF8 p;
       byte1 = ap (byteAt u) (add-assoc i 4 1) ∙ eqb-true (byteAt u (i + 5)) 0x72 q;

@@ -11,10 +11,10 @@ use lib.ListN.{length, take}
 use lib.Seq.{getD-take, drop-cons}
 use native.Mathlib.Numerals.{add-one}
 use borrow.Author.Tests.{leb-true, ltb-true, ltb-false, eqb-true, eqb-false}
-use Rattle.laws.specs.Pick.{pick}
 use Rattle.laws.specs.Parts.{byteAt, part}
+use Rattle.laws.specs.Turns.{less-one}
 use Rattle.machine.specs.Ask.{Ask, done, byte, front, either, _>>=_, ask, Eat, arrived, decide}
-use Rattle.machine.specs.AskLaws.{ask-then, thenAsk}
+use Rattle.machine.specs.AskLaws.{pick-some, ask-then, thenAsk}
 use Rattle.crc.specs.declared.Algorithm.{Algorithm}
 use Rattle.rules.specs.Search.{syncLength, unitLength, candidate}
 use Rattle.rules.specs.Request.{End, directory, even, closing, body, unit}
@@ -32,17 +32,13 @@ module _ {A : Type 0} (P : Type 0) where
   unfolding ask
   done-tells x a u f e = f (Option·some-injective _ _ e)
 
-  wait-tells : (b : Bool) (x : Option A) (a : A) → (b ≡ true → x ≡ some a → P) → pick b x none ≡ some a → P
-  wait-tells true x a f e = f refl e
-  wait-tells false x a f e = absurd (Option·none-ne-some a e)
-
   byte-tells : (i : ℕ) (k : ℕ → Ask A) (a : A) (u : List ℕ) → (i < length u → ask (k (byteAt u i)) u ≡ some a → P) → ask (byte i k) u ≡ some a → P
   unfolding ask
-  byte-tells i k a u f = wait-tells (leb (suc i) (length u)) (ask (k (byteAt u i)) u) a (λ t. f (leb-true _ _ t))
+  byte-tells i k a u f = pick-some P (leb (suc i) (length u)) (ask (k (byteAt u i)) u) a (λ t. f (leb-true _ _ t))
 
   front-tells : (n : ℕ) (k : List ℕ → Ask A) (a : A) (u : List ℕ) → (n ≤ length u → ask (k (take n u)) u ≡ some a → P) → ask (front n k) u ≡ some a → P
   unfolding ask
-  front-tells n k a u f = wait-tells (leb n (length u)) (ask (k (take n u)) u) a (λ t. f (leb-true _ _ t))
+  front-tells n k a u f = pick-some P (leb n (length u)) (ask (k (take n u)) u) a (λ t. f (leb-true _ _ t))
 
   either-tells : (b : Bool) (p q : Ask A) (a : A) (u : List ℕ) → (b ≡ true → ask p u ≡ some a → P) → (b ≡ false → ask q u ≡ some a → P) → ask (either b p q) u ≡ some a → P
   unfolding ask
@@ -64,15 +60,14 @@ decided-asked {A} q u g e = go (ask q u) e
   where
     go : (o : Option (Eat A)) → arrived u o ≡ some g → o ≡ some g
     go none x = absurd (Option·none-ne-some g x)
-    go (some d) x = wait-tells _ (leb (d .eaten) (length u)) (some d) g (λ t y. y) x
+    go (some d) x = pick-some _ (leb (d .eaten) (length u)) (some d) g (λ t y. y) x
 
 -- 2. The directory: all its bytes are there, and its parity is theirs.
 
 xor-one : (p at n : ℕ) (u : List ℕ) → at < length u → 1 ≤ n → xorOnto p (part u at n) ≡ xorOnto (bitXor p (byteAt u at)) (part u (at + 1) (n - 1))
 unfolding xorOnto
 xor-one p at n u l m =
-    let z : n ≡ suc (n - 1) = omega arith in
-    ap (λ k. xorOnto p (part u at k)) z ∙ rw (drop-cons u at 0 l, add-one at)
+    ap (λ k. xorOnto p (part u at k)) (less-one n m) ∙ rw (drop-cons u at 0 l, add-one at)
 
 xor-two : (p at n : ℕ) (u : List ℕ) → at + 1 < length u → 2 ≤ n
     → xorOnto p (part u at n) ≡ xorOnto (bitXor (bitXor p (byteAt u at)) (byteAt u (at + 1))) (part u (at + 2) (n - 2))

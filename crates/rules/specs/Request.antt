@@ -2,20 +2,17 @@
 use Prim.Native.Nat.{ℕ, zero, suc, _+_, _-_, _*_, _/_, _%_}
 use mathlib.Core.Bool.{Bool, true, false, _&&_}
 use mathlib.Core.List.{List}
-use mathlib.Core.Option.{Option}
 use lib.Dec.{leb, ltb, eqb}
 use lib.Bits.{bitXor}
 use lib.ListN.{length, drop}
 use Rattle.laws.specs.Pick.{pick}
-use Rattle.laws.specs.Parts.{byteAt, part}
 use Rattle.laws.specs.First.{Place, At, Nowhere}
-use Rattle.machine.specs.Step.{Step, dry, quiet, speak, Machine}
-use Rattle.machine.specs.Scan.{request, scan, Result}
+use Rattle.machine.specs.Step.{Step, dry, Machine}
+use Rattle.machine.specs.Scan.{scan, Result}
 use Rattle.machine.specs.Ask.{Ask, done, either, _>>=_, peek, Eat, eat, decide, Move, silent, aloud, settle}
 use Rattle.kinds.specs.declared.BytePosition.{BytePosition}
 use Rattle.crc.specs.declared.Algorithm.{Algorithm}
 use Rattle.rules.specs.Search.{find, keep, kept, stampAt, syncLength, unitLength, candidate}
-use Rattle.rules.specs.declared.Waiting.{Waiting}
 use Rattle.rules.specs.declared.Waiting.the-variants.{Nothing}
 use Rattle.rules.specs.declared.Losses.{Losses}
 use Rattle.rules.specs.declared.Loss.{Loss}

@@ -1,14 +1,14 @@
 -- Document 01, "Search (000, `resync`)": definitions only.
 use Prim.Native.Nat.{ℕ, zero, suc, _+_, _-_, _*_, _/_, _%_}
-use mathlib.Core.Bool.{Bool, true, false, _&&_, _||_}
-use mathlib.Core.List.{List, _++_}
+use mathlib.Core.Bool.{Bool, _&&_, _||_}
+use mathlib.Core.List.{List}
 use lib.Dec.{leb, ltb, eqb}
 use lib.Bits.{bitAnd}
-use lib.ListN.{length, drop}
+use lib.ListN.{length}
 use Rattle.laws.specs.Pick.{pick}
 use Rattle.laws.specs.Parts.{byteAt, part}
 use Rattle.laws.specs.Words.{word, wordAt}
-use Rattle.laws.specs.First.{Place, At, Nowhere, firstFrom}
+use Rattle.laws.specs.First.{Place, firstFrom}
 use Rattle.machine.specs.Ask.{Ask, done, either, _>>=_, peek, first, Eat, eat}
 use Rattle.crc.specs.declared.Algorithm.{Algorithm}
 use Rattle.crc.specs.Crc.{checkOf}

@@ -1,6 +1,6 @@
-pub mod Decimal
-pub mod Digits
+-- Decimal and hexadecimal digits, pairs and scans, a law a turn; and that each call has one answer.
+mod Decimal
+mod Digits
 pub mod One
-pub mod Pairs
-pub mod Stops
-pub mod Writes
+mod Pairs
+mod Stops

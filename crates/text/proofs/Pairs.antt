@@ -1,20 +1,20 @@
 -- Pairs of hexadecimal digits: a text of digits and no others, and the bytes that it writes, one a turn.
-use Prim.Native.Nat.{ℕ, zero, suc, _+_, _-_, _*_, _/_, _%_, _≤_, _<_}
+use Prim.Native.Nat.{ℕ, zero, suc, _+_, _*_, _/_, _%_, _≤_, _<_}
 use native.Mathlib.Nat.{zero-add, mod-eq-of-lt}
 use native.Mathlib.Omega.{arith}
 use native.Mathlib.Numerals.{add-one}
 use borrow.Author.Tests.{ltb-true, le-leb, lt-leb, lt-ltb, le-ltb, eq-eqb, ne-eqb}
 use mathlib.Core.Path.{_≡_, refl, sym, ap, ap₂, _∙_}
-use mathlib.Core.Bool.{Bool, true, false, false≢true}
+use mathlib.Core.Bool.{Bool, true, false}
 use mathlib.Core.List.{List, [], _∷_}
 use lib.Dec.{ltb}
-use lib.ListN.{length, getD, set, take, drop, length-take, drop-of-length-le}
+use lib.ListN.{length, getD, set, drop, drop-of-length-le}
 use lib.Seq.{paste, drop-cons}
-use Rattle.laws.specs.Pick.{pick, pick-same}
+use Rattle.laws.specs.Pick.{pick-same, both}
 use Rattle.laws.specs.Parts.{byteAt}
 use Rattle.text.specs.declared.Hex.{Hex}
 use Rattle.text.specs.Numbers.{hexDigitOf, allHex, pairsOf, hexGood, hexBytesOf, hexBytesOn}
-use Rattle.text.proofs.Writes.{written, written-more}
+use Rattle.laws.specs.Writes.{written, written-more}
 
 -- each byte in its turn
 module _ (s : List ℕ) (i : ℕ) {x : Bool} (same : x ≡ allHex (drop i s)) where
@@ -30,10 +30,6 @@ module _ (s : List ℕ) (i : ℕ) {x : Bool} (same : x ≡ allHex (drop i s)) wh
     pub one-is-hex : d ≤ 15 → x ≡ allHex (drop (i + 1) s)
     unfolding allHex
     one-is-hex l = same ∙ ap allHex (drop-cons s i 0 h) ∙ rw (← ed, lt-ltb d 16 (omega arith), add-one)
-
-both : (t r : Bool) → pick t r false ≡ true → (t ≡ true) × (r ≡ true)
-both true r e = (refl, e)
-both false r e = absurd (false≢true e)
 
 each-hex : (s : List ℕ) → allHex s ≡ true → (i : ℕ) → i < length s → hexDigitOf (byteAt s i) < 16
 unfolding allHex

@@ -1,33 +1,28 @@
 -- A scan that goes one place at a time: where it stands at the end, where it stops, and what is left of it one place on.
-use Prim.Native.Nat.{ℕ, suc, _+_, _-_, _≤_, _<_, min}
-use native.Mathlib.Omega.{arith}
-use native.Mathlib.Numerals.{add-one}
+use Prim.Native.Nat.{ℕ, _+_, _≤_, _<_, min}
 use borrow.Author.Tests.{eq-eqb, ne-eqb}
-use mathlib.Core.Path.{_≡_, refl, sym, ap, _∙_}
+use mathlib.Core.Path.{_≡_, sym, ap, _∙_}
 use mathlib.Core.Bool.{Bool, true, false, not}
 use mathlib.Core.List.{List}
 use lib.ListN.{length}
 use Rattle.laws.specs.Parts.{byteAt}
-use Rattle.laws.specs.First.{firstFrom, first-here, first-later, first-none}
+use Rattle.laws.specs.First.{scan-end, scan-here, scan-later}
 use Rattle.text.specs.Text.{placeOr, stop, lineEndOf, wordFrom, wordTo, nextWordOf}
 use Rattle.text.specs.declared.Word.{Word}
 
 module _ (p : ℕ → Bool) (i end : ℕ) {x : ℕ} (same : x ≡ stop p i end) where
   stop-end : end ≤ i → end ≡ x
   unfolding stop
-  stop-end h = let e : end - i ≡ 0 = omega arith in sym (same ∙ ap (λ n. placeOr end (firstFrom p i n)) e ∙ ap (placeOr end) (first-none p i))
+  stop-end h = sym (same ∙ ap (placeOr end) (scan-end p i end h))
 
   module _ (h : i < end) where
-    left : end - i ≡ suc (end - (i + 1))
-    left = omega arith
-
     stop-here : p i ≡ true → i ≡ x
     unfolding stop
-    stop-here t = sym (same ∙ ap (λ n. placeOr end (firstFrom p i n)) left ∙ ap (placeOr end) (first-here p i _ t))
+    stop-here t = sym (same ∙ ap (placeOr end) (scan-here p i end h t))
 
     stop-later : p i ≡ false → x ≡ stop p (i + 1) end
     unfolding stop
-    stop-later f = same ∙ ap (λ n. placeOr end (firstFrom p i n)) left ∙ ap (placeOr end) (first-later p i _ f) ∙ rw add-one
+    stop-later f = same ∙ ap (placeOr end) (scan-later p i end h f)
 
 -- of a line
 
@@ -75,4 +70,4 @@ module _ (s : List ℕ) (i end : ℕ) {x : ℕ} (same : x ≡ wordTo s i end) wh
 pub next-word-is : (s : List ℕ) (at end : ℕ) {last from to : ℕ} → last ≡ min end (length s) → from ≡ wordFrom s at last → to ≡ wordTo s from last
     → _≡_ {A = Word} (record { from = from; to = to }) (nextWordOf s at end)
 unfolding nextWordOf
-next-word-is s at end el ef et = cc
+next-word-is s at end el ef et = rw (et, ef, el)

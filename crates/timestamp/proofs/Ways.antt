@@ -1,6 +1,6 @@
 -- What each way out of `fields` and `from_bytes` shows, in the order of the tests.
 use Prim.Native.Nat.{ℕ, _≤_, _<_}
-use mathlib.Core.Path.{_≡_, refl, sym, _∙_}
+use mathlib.Core.Path.{_≡_, _∙_}
 use mathlib.Core.List.{List}
 use lib.ListN.{length}
 use borrow.Author.Tests.{le-ltb, lt-ltb, ne-eqb}

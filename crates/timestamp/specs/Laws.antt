@@ -1,17 +1,17 @@
 -- What holds of every parse, and the cases P6 and P7 of document 01.
-use Prim.Native.Nat.{ℕ, zero, suc, _+_, _*_, _/_, _%_, _≤_, _<_}
+use Prim.Native.Nat.{ℕ, _/_, _%_, _≤_, _<_}
 use native.Mathlib.Omega.{arith}
-use mathlib.Core.Path.{_≡_, refl, sym, ap, _∙_}
+use mathlib.Core.Path.{_≡_, refl}
 use mathlib.Core.Logic.{_⊎_, inl, inr}
 use mathlib.Core.Bool.{Bool, true, false, _&&_, _||_}
 use mathlib.Core.List.{List, [], _∷_, _++_}
 use lib.Dec.{T, ltb, leb, eqb}
 use lib.ListN.{length, length-append, replicate}
 use borrow.Author.Tests.{le-ltb, lt-ltb, eq-eqb, ne-eqb}
-use Rattle.laws.specs.Pick.{pick, pick-holds}
+use Rattle.laws.specs.Pick.{pick-holds}
 use Rattle.laws.specs.Table.{at-each}
 use Rattle.laws.specs.Words.{wordAt, wordAt-further}
-use Rattle.timestamp.specs.Timestamp.{numberOf, refusal, bcdOf, rateOf, stampOf, withDigits, fieldsOf, parseOf}
+use Rattle.timestamp.specs.Timestamp.{refusal, bcdOf, rateOf, stampOf, withDigits, fieldsOf, parseOf}
 use Rattle.timestamp.specs.declared.Framerate.{Framerate}
 use Rattle.timestamp.specs.declared.Framerate.the-variants.{«R23_976», R24, R25, «R29_97», R30, R50, «R59_94», R60, Invalid}
 use Rattle.timestamp.specs.declared.Timestamp.{Timestamp}

@@ -1,7 +1,6 @@
 -- Document 01, "Timestamp (003)", and numbers 9 to 11 of "Numbers the desk will see".
 use Prim.Native.Nat.{ℕ, _+_, _*_, _/_, _%_}
 use mathlib.Core.List.{List}
-use mathlib.Core.Bool.{Bool, true, false}
 use lib.ListN.{length}
 use lib.Dec.{ltb, eqb}
 use Rattle.laws.specs.Pick.{pick}

@@ -4,7 +4,7 @@ use mathlib.Core.Path.{_≡_, refl}
 use mathlib.Core.Bool.{Bool, true, false}
 use mathlib.Core.List.{List, [], _∷_}
 use lib.Dec.{leb, eqb}
-use Rattle.laws.specs.Pick.{pick, pick-holds}
+use Rattle.laws.specs.Pick.{pick, pick-holds, both}
 use Rattle.timing.specs.declared.TimingContext.{TimingContext}
 use Rattle.timing.specs.declared.HiresTimingFault.{HiresTimingFault}
 use Rattle.timing.specs.declared.HiresTimingFault.the-variants.{NoFault, ExtraZeroAfterEnd, ExtraZeroInField, InvalidZeroInField, Sequence}
@@ -73,10 +73,6 @@ module _ (r : HiresOutputTimingState) (z : r .counter ≡ 0) where
   update-clear : Fit r → (ctx : TimingContext) (bit : Bool) → Clear (updatedOf r ctx bit)
   unfolding updatedOf
   update-clear f ctx bit = rw (fit-holds r f) (step-clear ctx bit)
-
-both : (b x : Bool) → pick b x false ≡ true → (b ≡ true) × (x ≡ true)
-both true x e = (refl, e)
-both false x e = (cc, cc)
 
 -- as long as nothing is answered, the counter stays 0
 waiting : (r : HiresOutputTimingState) (us : List Unit) → Fit r → r .counter ≡ 0 → allNothing (answersOf r us) ≡ true → afterOf r us .counter ≡ 0

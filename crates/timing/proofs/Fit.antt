@@ -6,14 +6,14 @@ use mathlib.Core.List.{List, [], _∷_}
 use native.Mathlib.Omega.{arith}
 use lib.Dec.{leb, ltb, eqb}
 use borrow.Author.Tests.{ltb-true, ltb-false, leb-true, eqb-false}
-use Rattle.laws.specs.Pick.{pick-holds}
+use Rattle.laws.specs.Pick.{pick-holds, passed}
 use Rattle.timing.specs.declared.TimingContext.{TimingContext}
 use Rattle.timing.specs.declared.HiresOutputTimingState.{HiresOutputTimingState}
 use Rattle.timing.specs.declared.Updated.{Updated}
 use Rattle.timing.specs.Timing.{fitsOf, freshOf, stepOf, updatedOf, resetOf, countOf, raisedOf, afterOneOf, continuesOf}
 use Rattle.timing.specs.Timing.{state0Of, states1to4Of, state5Of, states6to10Of, states11to15Of, fieldEndOf}
 use Rattle.timing.specs.Units.{Unit, afterOf}
-use Rattle.timing.proofs.Laws.{passed, counts-say, counts-low, fits-by}
+use Rattle.timing.proofs.Laws.{counts-say, counts-low, fits-by}
 
 pub record Fit (r : HiresOutputTimingState) : Type 0 where
   pub state : r .state ≤ 15

@@ -1,10 +1,10 @@
 -- What each way out of a step shows: a record that fits takes the step of its state, one that doesn't is refused.
 use Prim.Native.Nat.{ℕ, _+_, _-_, _≤_, _<_}
-use mathlib.Core.Path.{_≡_, refl, sym, _∙_}
+use mathlib.Core.Path.{_≡_, sym, _∙_}
 use mathlib.Core.Bool.{Bool, true, false}
 use borrow.Author.Tests.{ltb-false, le-ltb, lt-ltb, le-leb, lt-leb, eq-eqb, ne-eqb}
 use native.Mathlib.Omega.{arith}
-use Rattle.laws.specs.Pick.{pick, pick-same}
+use Rattle.laws.specs.Pick.{pick-same, passed}
 use Rattle.timing.specs.declared.TimingContext.{TimingContext}
 use Rattle.timing.specs.declared.HiresOutputTimingState.{HiresOutputTimingState}
 use Rattle.timing.specs.declared.HiresTimingFault.the-variants.{ExtraZeroAfterEnd, ExtraZeroInField, InvalidZeroInField}
@@ -12,11 +12,6 @@ use Rattle.timing.specs.declared.Answer.the-variants.{Start}
 use Rattle.timing.specs.declared.Updated.{Updated}
 use Rattle.timing.specs.Timing.{countsFitOf, fitsOf, stepOf, updatedOf, resetOf, refused, quietly, startedBy, branchedFrom, movedTo, faultedBy, readOn, shiftOf, withOneOf, afterOneOf, raisedOf, endedAt, brokenAt}
 use Rattle.timing.specs.Timing.{state0Of, states1to4Of, state5Of, states6to10Of, states11to15Of, fieldEndOf, startOf, continuesOf}
-
--- what is known past a test that would have refused
-pub passed : (b x : Bool) → pick b false x ≡ true → (b ≡ false) × (x ≡ true)
-passed true x e = (cc, cc)
-passed false x e = (refl, e)
 
 module _ (counter bits : ℕ) where
   pub counter-high : 3 < counter → false ≡ countsFitOf counter bits

@@ -3,13 +3,13 @@ use crate::show;
 use timing::HiresOutputTimingState;
 use timing::TimingContext;
 
-pub struct Desk {
+pub(crate) struct Desk {
     pub timing: HiresOutputTimingState,
     pub about: TimingContext,
 }
 
 // A fresh record before a unit.
-pub fn fresh(unit: u64, samples: u64, output: u64) -> Desk {
+pub(crate) fn fresh(unit: u64, samples: u64, output: u64) -> Desk {
     let timing = HiresOutputTimingState::fresh();
     Desk {
         timing,
@@ -58,22 +58,22 @@ fn run(d: Desk, script: &[u8], printed: bool) -> Desk {
 }
 
 // A script, every unit printed.
-pub fn each(d: Desk, script: &[u8]) -> Desk {
+pub(crate) fn each(d: Desk, script: &[u8]) -> Desk {
     run(d, script, true)
 }
 
 // A script, no unit printed.
-pub fn silent(d: Desk, script: &[u8]) -> Desk {
+pub(crate) fn silent(d: Desk, script: &[u8]) -> Desk {
     run(d, script, false)
 }
 
 // A script and a last 0, which alone is printed.
-pub fn last(d: Desk, script: &[u8]) -> Desk {
+pub(crate) fn last(d: Desk, script: &[u8]) -> Desk {
     step(run(d, script, false), false, true)
 }
 
 // So many ones, of which the last is printed.
-pub fn ones(d: Desk, n: u64) -> Desk {
+pub(crate) fn ones(d: Desk, n: u64) -> Desk {
     let mut now = d;
     for _ in 1..n {
         now = step(now, true, false);

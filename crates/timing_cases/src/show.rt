@@ -6,7 +6,7 @@ use timing::HiresOutputTimingState;
 use timing::HiresTimingFault;
 use timing::Updated;
 
-pub fn say(text: &[u8]) {
+pub(crate) fn say(text: &[u8]) {
     io::write_all(STDOUT_FILENO, text);
 }
 
@@ -111,7 +111,7 @@ fn record(r: HiresOutputTimingState) {
     fault(f);
 }
 
-pub fn updated(x: Updated) {
+pub(crate) fn updated(x: Updated) {
     let a = x.answer;
     answer(a);
     record(x.next);
@@ -127,21 +127,21 @@ fn bit_of(bit: bool) {
 }
 
 // A unit's bit, by the unit's number.
-pub fn unit(number: u64, bit: bool) {
+pub(crate) fn unit(number: u64, bit: bool) {
     say(b"  unit ");
     aligned(number, 5);
     bit_of(bit);
 }
 
 // A bit, by the state it is taken in.
-pub fn from(state: u8, bit: bool) {
+pub(crate) fn from(state: u8, bit: bool) {
     say(b"  from ");
     aligned(state as u64, 5);
     bit_of(bit);
 }
 
 // A branch reset, by the state it is made in.
-pub fn reset(state: u8) {
+pub(crate) fn reset(state: u8) {
     say(b"  from ");
     aligned(state as u64, 5);
     say(b"  reset");

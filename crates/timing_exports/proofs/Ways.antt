@@ -6,8 +6,8 @@ use mathlib.Core.List.{List}
 use lib.Dec.{leb, ltb, eqb}
 use lib.ListN.{getD}
 use native.Mathlib.Omega.{arith}
-use borrow.Author.Tests.{ltb-false, eqb-true, lt-ltb, le-ltb}
-use Rattle.laws.specs.Pick.{pick, pick-holds}
+use borrow.Author.Tests.{ltb-false, eqb-true, le-ltb}
+use Rattle.laws.specs.Pick.{pick-holds, passed}
 use Rattle.timing.specs.declared.TimingContext.{TimingContext}
 use Rattle.timing.specs.declared.HiresTimingFault.{HiresTimingFault}
 use Rattle.timing.specs.declared.HiresTimingFault.the-variants.{NoFault, ExtraZeroAfterEnd, ExtraZeroInField, InvalidZeroInField, Sequence}
@@ -15,28 +15,18 @@ use Rattle.timing.specs.declared.HiresOutputTimingState.{HiresOutputTimingState
 use Rattle.timing.specs.declared.Answer.{Answer}
 use Rattle.timing.specs.declared.Answer.the-variants.{Nothing, Start, Record}
 use Rattle.timing.specs.declared.Updated.{Updated}
-use Rattle.timing.specs.Timing.{countsFitOf, fitsOf, stepOf, updatedOf, resetOf, quietly}
+use Rattle.timing.specs.Timing.{freshOf, countsFitOf, fitsOf, stepOf, updatedOf, resetOf, quietly}
 use Rattle.timing.specs.Timing.{state0Of, states1to4Of, state5Of, states6to10Of, states11to15Of, fieldEndOf}
 use Rattle.timing.specs.Numbers.{numberOf}
 use Rattle.timing_exports.specs.declared.MvTimingAnswer.{MvTimingAnswer}
-use Rattle.timing_exports.specs.Flat.{yesOf, recordOf, unfaulted, laidOf, laidWith, wordsOf}
+use Rattle.timing_exports.specs.Flat.{recordOf, unfaulted, laidOf, laidWith, wordsOf}
 use Rattle.timing_exports.specs.Calls.{answerFlat, leftBy}
 use Rattle.timing_exports.specs.FlatLaws.{left-unchanged, update-refused, reset-refused}
-
-pub is-yes : (b : ℕ) → 0 < b → true ≡ yesOf b
-is-yes b h = sym (lt-ltb 0 b h)
-
-pub is-no : (b : ℕ) → b ≤ 0 → false ≡ yesOf b
-is-no b h = sym (le-ltb 0 b h)
 
 -- words that pass number 1's three tests
 pub all-low : (w : List ℕ) → getD w 0 0 ≤ 15 → getD w 1 0 ≤ 3 → getD w 2 0 ≤ 65535 → true ≡ fitsOf (recordOf w)
 unfolding fitsOf countsFitOf recordOf
 all-low w s c b = simp (le-ltb _ _ s, le-ltb _ _ c, le-ltb _ _ b)
-
-passed : (b x : Bool) → pick b false x ≡ true → (b ≡ false) × (x ≡ true)
-passed true x e = (cc, cc)
-passed false x e = (refl, e)
 
 -- words that fit can be narrowed
 module _ (w : List ℕ) (e : fitsOf (recordOf w) ≡ true) where
@@ -88,6 +78,25 @@ module _ {a : Answer} where
   pub flat-record : a ≡ Record → _≡_ {A = MvTimingAnswer} (record { number = 1; start = 0; present = 0 }) (answerFlat a)
   flat-record q = rw q
 
+-- the words read as a record, but for its fault; and the words of the fresh one
+pub read-as : (w : List ℕ)
+    → _≡_ {A = HiresOutputTimingState}
+    (record {
+      state = getD w 0 0;
+      counter = getD w 1 0;
+      bits = getD w 2 0;
+      field = record { timing = getD w 3 0; unit = getD w 4 0; output = getD w 5 0 };
+      previous = record { timing = getD w 6 0; unit = getD w 7 0; output = getD w 8 0 };
+      fault = NoFault;
+    })
+    (unfaulted (recordOf w))
+unfolding recordOf
+read-as w = refl
+
+pub laid-fresh : {r : HiresOutputTimingState} → r ≡ freshOf → {w : List ℕ} → w ≡ wordsOf r → w ≡ wordsOf freshOf
+laid-fresh er ew = rw er at ew
+
+-- a record made anew with the previous field that it has
 pub remade : (n : HiresOutputTimingState) (w : List ℕ) → n .fault ≡ NoFault → n .previous ≡ recordOf w .previous
     → _≡_ {A = HiresOutputTimingState}
     (record {
@@ -149,9 +158,6 @@ module _ (w : List ℕ) {x : Bool} (ex : x ≡ fitsOf (recordOf w)) (q : x ≡ f
 
 -- words that fit: the library's call, whatever the fault was
 module _ (w : List ℕ) {x : Bool} (ex : x ≡ fitsOf (recordOf w)) (q : x ≡ true) where
-  pub fits-shown : fitsOf (recordOf w) ≡ true
-  fits-shown = sym ex ∙ q
-
   left-next : (u : Updated) → wordsOf (u .next) ≡ leftBy w u
   unfolding leftBy
   left-next u = rw (← ex, q)
@@ -165,9 +171,9 @@ module _ (w : List ℕ) {x : Bool} (ex : x ≡ fitsOf (recordOf w)) (q : x ≡ t
   reset-drops = rw (← ex, q)
 
   module _ {r : HiresOutputTimingState} (er : r ≡ unfaulted (recordOf w)) {u : Updated} where
-    module _ (ctx : TimingContext) {b bit : Bool} (eb : b ≡ bit) (eu : u ≡ updatedOf r ctx b) where
+    module _ (ctx : TimingContext) (bit : Bool) (eu : u ≡ updatedOf r ctx bit) where
       steps : u ≡ updatedOf (recordOf w) ctx bit
-      steps = eu ∙ rw (er, eb) (update-drops ctx bit)
+      steps = eu ∙ rw er (update-drops ctx bit)
 
       pub update-answers : {a : MvTimingAnswer} → a ≡ answerFlat (u .answer) → a ≡ answerFlat (updatedOf (recordOf w) ctx bit .answer)
       update-answers ea = rw (ea, steps)

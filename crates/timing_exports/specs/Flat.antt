@@ -1,18 +1,13 @@
 -- What fourteen words say, and how a record is laid out in them: definitions only.
 use Prim.Native.Nat.{ℕ}
-use mathlib.Core.Bool.{Bool}
 use mathlib.Core.List.{List, [], _∷_}
-use lib.Dec.{eqb, ltb}
+use lib.Dec.{eqb}
 use lib.ListN.{getD}
 use Rattle.laws.specs.Pick.{pick}
 use Rattle.timing.specs.declared.HiresTimingFault.{HiresTimingFault}
 use Rattle.timing.specs.declared.HiresTimingFault.the-variants.{NoFault, ExtraZeroAfterEnd, ExtraZeroInField, InvalidZeroInField, Sequence}
 use Rattle.timing.specs.declared.HiresOutputTimingState.{HiresOutputTimingState}
 use Rattle.timing.specs.Timing.{movedTo}
-
--- any byte but zero is yes
-abbrev pub yesOf : ℕ → Bool
-yesOf b = ltb 0 b
 
 -- a fault by its code and the numbers that it may name; any code but 1 to 4 is no fault
 unfoldable pub faultOf : ℕ → ℕ → ℕ → ℕ → ℕ → HiresTimingFault

@@ -7,7 +7,8 @@ ghost use mathlib.Core.Path.{_≡_};
 ghost use mathlib.Core.Bool.{true};
 ghost use Rattle.timing.specs.Timing.{freshOf, updatedOf, resetOf, fitsOf};
 ghost use Rattle.timing.specs.Numbers.{numberOf};
-ghost use Rattle.timing_exports.specs.Flat.{yesOf, recordOf, unfaulted, laidOf, wordsOf};
+ghost use Rattle.laws.specs.Flags.{yesOf};
+ghost use Rattle.timing_exports.specs.Flat.{recordOf, unfaulted, laidOf, wordsOf};
 ghost use Rattle.timing_exports.specs.Calls.{contextOf, answerFlat, leftBy};
 use timing::Answer;
 use timing::Field;
@@ -21,13 +22,6 @@ pub struct MvTimingAnswer {
     pub number: u32,
     pub start: u32,
     pub present: u8,
-}
-
-// Any byte but zero is yes.
-fn yes(b: u8) -> bool
-    ensures { λ r. ⌜ r ≡ yesOf b ⌝ }
-{
-    if 0 < b { true } else { false }
 }
 
 // Do the words fit? Asked of the words, before they are narrowed to the record's fields.
@@ -166,7 +160,7 @@ pub extern "C" fn mv_timing_fresh(timing: &mut [u64; 14])
     *timing = words_of(HiresOutputTimingState::fresh());
 }
 
-// Feeds one unit's bit; number 1 where the record doesn't fit.
+// Feeds one unit's bit, any byte but zero for one; number 1 where the record doesn't fit.
 #[no_mangle]
 pub extern "C" fn mv_timing_update(
     timing: &mut [u64; 14],
@@ -187,7 +181,7 @@ pub extern "C" fn mv_timing_update(
         samples,
         output,
     };
-    let updated = record_of(w).update(ctx, yes(bit));
+    let updated = record_of(w).update(ctx, 0 < bit);
     let next = updated.next;
     let answer = updated.answer;
     let fault = next.fault;

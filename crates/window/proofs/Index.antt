@@ -3,7 +3,7 @@ use Prim.Native.Nat.{ℕ, _-_, _≤_, _<_}
 use native.Mathlib.Omega.{arith}
 use mathlib.Core.Path.{_≡_, sym, ap, _∙_}
 use mathlib.Core.Bool.{Bool, true, false}
-use Rattle.levels.specs.IndexLaws.{less-one}
+use Rattle.laws.specs.Turns.{less-one}
 use Rattle.window.specs.Index.{highest}
 use Rattle.window.specs.declared.Underrun.{Underrun}
 use Rattle.window.specs.declared.Underrun.the-variants.{Nothing, At}

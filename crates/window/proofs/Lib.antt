@@ -1,3 +1,4 @@
+-- Why each step of the window is its rule, what always holds of it, and that each call has one answer.
 mod Index
 mod Accumulator
 mod All

@@ -14,7 +14,7 @@ use Rattle.window.specs.declared.Rings.{Rings}
 use Rattle.window.specs.declared.Drained.{Drained}
 use Rattle.window.specs.declared.Underrun.{Underrun}
 use Rattle.window.specs.declared.Underrun.the-variants.{Nothing, At}
-use Rattle.levels.specs.IndexLaws.{less-one}
+use Rattle.laws.specs.Turns.{less-one}
 
 pub slot-read : (l : Levels) (c : Contribution) {m : Levels} → m ≡ drainedOf l c → m .read < 128
 unfolding drainedOf

@@ -1,3 +1,4 @@
+-- The window's rules: one accumulator, one unit at all of them, the rings, a step, and what follows from steps.
 pub mod Index
 pub mod Depth
 pub mod Levels

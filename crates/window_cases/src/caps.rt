@@ -80,7 +80,7 @@ fn agreeing() -> u64 {
     }
 }
 
-pub fn print() {
+pub(crate) fn print() {
     fba();
     word(b"FBB caps by low nibble, accumulators 0 to 5\n");
     let mut nibble: u8 = 0;

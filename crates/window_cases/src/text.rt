@@ -1,15 +1,15 @@
 // Words and numbers on standard output, in columns.
 use levels::Answer;
 
-pub fn word(w: &[u8]) {
+pub(crate) fn word(w: &[u8]) {
     io::write_all(1, w);
 }
 
-pub fn line() {
+pub(crate) fn line() {
     word(b"\n");
 }
 
-pub fn number(n: u64) {
+pub(crate) fn number(n: u64) {
     io::print_decimal(1, n);
 }
 
@@ -21,7 +21,7 @@ fn rest(text: &[u8], k: usize) {
 }
 
 // A number in a column of eleven.
-pub fn column(n: u64) {
+pub(crate) fn column(n: u64) {
     let mut digits = [0u8; 20];
     let k = io::decimal(n, &mut digits);
     rest(b"           ", k);
@@ -29,7 +29,7 @@ pub fn column(n: u64) {
 }
 
 // An answer's number in document 01, 0 where the call is accepted.
-pub fn answer(a: Answer) {
+pub(crate) fn answer(a: Answer) {
     word(b" number");
     match a {
         Answer::Accepted => word(b"  0"),

@@ -1,1 +1,2 @@
+-- Each answer laid flat, cited by the contracts.
 pub mod Flat

@@ -3,7 +3,8 @@ use borrow.Author.Needs.{needs}
 use Prim.Native.Nat.{_-_, _≤_}
 use mathlib.Core.Path.{_≡_, refl}
 use lib.ListN.{length, length-set}
-use Rattle.buffer.proofs.Copies.{written, written-none, written-more, written-whole}
+use Rattle.laws.specs.Writes.{written, written-none, written-more}
+use Rattle.buffer.proofs.Copies.{write-whole}
 use Rattle.buffer.proofs.write_at.Statement.{statement}
 use Rattle.buffer.proofs.write_at.Tie as tie
 
@@ -27,4 +28,4 @@ write-at-spec =
     (λ c. search needs)
     (λ c. (search (needs, written-more), search needs, simp length-set (search needs)))
     (λ c. search needs)
-    (λ c. search (needs, written-whole)))
+    (λ c. search (needs, write-whole)))

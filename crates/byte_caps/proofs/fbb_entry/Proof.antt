@@ -9,12 +9,6 @@ returns : tie.Need-returns
 unfolding fbbEntry
 returns c = search (needs, eq-eqb, ne-eqb, lt-ltb, le-ltb, le-leb, lt-leb)
 
-mul-result : tie.Need-mul-result
-mul-result c = search needs
-
-array-read-result : tie.Need-array-read-result
-array-read-result c = search needs
-
 returns-2 : tie.Need-returns-2
 unfolding fbbEntry
 returns-2 c = search (needs, eq-eqb, ne-eqb, lt-ltb, le-ltb, le-leb, lt-leb)
@@ -24,4 +18,11 @@ unfolding fbbEntry
 returns-3 c = search (needs, eq-eqb, ne-eqb, lt-ltb, le-ltb, le-leb, lt-leb)
 
 pub fbb-entry-spec : {M : Type 1} → statement M
-fbb-entry-spec = tie.close (tie.spec returns mul-result array-read-result returns-2 returns-3)
+fbb-entry-spec =
+    tie.close
+    (tie.spec
+    returns
+    (λ c. search needs)
+    (λ c. search needs)
+    returns-2
+    returns-3)

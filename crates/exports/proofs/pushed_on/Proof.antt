@@ -14,5 +14,5 @@ pushed-on-spec =
     (λ c. search needs)
     (λ c. search needs)
     (λ c. search needs)
-    (λ c. (cc, search (needs, accepts)))
-    (λ c. (cc, search (needs, refuses))))
+    (λ c. (search needs, search (needs, accepts)))
+    (λ c. (search needs, search (needs, refuses))))

@@ -1,6 +1,6 @@
 -- `up_to`, by the comparison.
 use borrow.Author.Needs.{needs}
-use Rattle.exports.proofs.Ways.{stays, caps}
+use Rattle.exports.specs.WordLaws.{up-to, capped}
 use Rattle.exports.proofs.up_to.Statement.{statement}
 use Rattle.exports.proofs.up_to.Tie as tie
 
@@ -8,5 +8,5 @@ pub up-to-spec : {M : Type 1} → statement M
 up-to-spec =
     tie.close
     (tie.spec
-    (λ c. search (needs, stays))
-    (λ c. search (needs, caps)))
+    (λ c. search (needs, up-to))
+    (λ c. search (needs, capped)))

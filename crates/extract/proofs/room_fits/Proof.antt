@@ -1,6 +1,6 @@
 -- `extract::room_fits` makes the two tests of the rule.
 use borrow.Author.Needs.{needs}
-use borrow.Author.Tests.{eq-eqb, ne-eqb, le-leb, lt-leb}
+use borrow.Author.Tests.{le-leb, lt-leb}
 use Rattle.extract.proofs.room_fits.Statement.{statement}
 use Rattle.extract.proofs.room_fits.Tie as tie
 

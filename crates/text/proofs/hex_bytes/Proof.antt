@@ -2,6 +2,7 @@
 use borrow.Author.Needs.{needs}
 use native.Mathlib.Omega.{arith}
 use lib.ListN.{length-take}
+use Rattle.laws.specs.Pick.{told}
 use Rattle.text.proofs.Pairs.{odd, no-room, not-all, is-good, answers-bad, answers-good, writes-none, writes-all}
 use Rattle.text.proofs.hex_bytes.Statement.{statement}
 use Rattle.text.proofs.hex_bytes.Tie as tie
@@ -13,7 +14,7 @@ hex-bytes-spec =
     (λ c. (search (needs, answers-bad, odd), (search (needs, writes-none, odd), search needs)))
     (λ c. (search (needs, answers-bad, no-room), (search (needs, writes-none, no-room), search needs)))
     (λ c κs. search needs)
-    (λ c κs. (cc, omega arith, search needs))
+    (λ c κs. (search (needs, told), omega arith, search needs))
     (λ c. search needs)
     (λ c. (search (needs, answers-good, is-good), (search (needs, writes-all, is-good), (search needs, simp length-take (omega arith)))))
     (λ c. (search (needs, answers-bad, not-all), (search (needs, writes-none, not-all), search needs))))

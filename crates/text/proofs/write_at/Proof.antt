@@ -3,7 +3,7 @@ use borrow.Author.Needs.{needs}
 use Prim.Native.Nat.{_-_, _≤_}
 use mathlib.Core.Path.{_≡_, refl}
 use lib.ListN.{length, length-set}
-use Rattle.text.proofs.Writes.{written, written-none, written-more, written-whole}
+use Rattle.laws.specs.Writes.{written, written-none, written-more, written-whole}
 use Rattle.text.proofs.write_at.Statement.{statement}
 use Rattle.text.proofs.write_at.Tie as tie
 

@@ -4,7 +4,7 @@ use Prim.Native.Nat.{_-_, _≤_}
 use mathlib.Core.Path.{_≡_, refl}
 use lib.ListN.{length, length-set}
 use Rattle.text.specs.Numbers.{pairsOf}
-use Rattle.text.proofs.Writes.{written, written-none}
+use Rattle.laws.specs.Writes.{written, written-none}
 use Rattle.text.proofs.Pairs.{pair-written, pairs-written}
 use Rattle.text.proofs.write_pairs.Statement.{statement}
 use Rattle.text.proofs.write_pairs.Tie as tie

@@ -4,24 +4,13 @@ use borrow.Author.Needs.{needs}
 use Rattle.timing.proofs.with_one.Statement.{statement}
 use Rattle.timing.proofs.with_one.Tie as tie
 
-shl-result : tie.Need-shl-result
-shl-result c = search needs
-
-sub-result : tie.Need-sub-result
-sub-result c = search needs
-
-cast-result : tie.Need-cast-result
-cast-result c = search needs
-
-shl-result-2 : tie.Need-shl-result-2
-shl-result-2 c = search needs
-
-add-result : tie.Need-add-result
-add-result c = search (needs, with-one-fits)
-
-returns : tie.Need-returns
-returns c = search (needs, with-one-is)
-
 pub with-one-spec : {M : Type 1} → statement M
 with-one-spec =
-    tie.close (tie.spec shl-result sub-result cast-result shl-result-2 add-result returns)
+    tie.close
+    (tie.spec
+    (λ c. search needs)
+    (λ c. search needs)
+    (λ c. search needs)
+    (λ c. search needs)
+    (λ c. search (needs, with-one-fits))
+    (λ c. search (needs, with-one-is)))

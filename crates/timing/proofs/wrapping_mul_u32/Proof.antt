@@ -4,14 +4,10 @@ use borrow.Author.Needs.{needs}
 use Rattle.timing.proofs.wrapping_mul_u32.Statement.{statement}
 use Rattle.timing.proofs.wrapping_mul_u32.Tie as tie
 
-mul-low : tie.Need-mul-low
-mul-low c = record { fits = product-below 32 (search needs) (search needs) }
-
-low-requires : tie.Need-low-requires
-low-requires c κs = search needs
-
-returns : tie.Need-returns
-returns c = search needs
-
 pub wrapping-mul-u32-spec : {M : Type 1} → statement M
-wrapping-mul-u32-spec = tie.close (tie.spec mul-low low-requires returns)
+wrapping-mul-u32-spec =
+    tie.close
+    (tie.spec
+    (λ c. record { fits = product-below 32 (search needs) (search needs) })
+    (λ c κs. search needs)
+    (λ c. search needs))

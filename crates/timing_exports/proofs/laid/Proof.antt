@@ -1,5 +1,6 @@
 -- `laid` lays out field by field.
 use borrow.Author.Needs.{needs}
+use mathlib.Core.Path.{refl}
 use Rattle.timing_exports.specs.Flat.{laidOf}
 use Rattle.timing_exports.proofs.laid.Statement.{statement}
 use Rattle.timing_exports.proofs.laid.Tie as tie
@@ -12,4 +13,4 @@ laid-spec =
     (λ c. search needs)
     (λ c. search needs)
     (λ c. search needs)
-    (λ c. cc))
+    (λ c. refl))

@@ -1,5 +1,6 @@
 -- `mv_timing_fresh` lays out the library's fresh record.
 use borrow.Author.Needs.{needs}
+use Rattle.timing_exports.proofs.Ways.{laid-fresh}
 use Rattle.timing_exports.proofs.mv_timing_fresh.Statement.{statement}
 use Rattle.timing_exports.proofs.mv_timing_fresh.Tie as tie
 
@@ -9,4 +10,4 @@ mv-timing-fresh-spec =
     (tie.spec
     (λ c κs. search needs)
     (λ c κs. search needs)
-    (λ c. cc))
+    (λ c. search (needs, laid-fresh)))

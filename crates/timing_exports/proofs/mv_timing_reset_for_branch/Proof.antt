@@ -1,6 +1,7 @@
 -- `mv_timing_reset_for_branch` is the library's reset on the record that the words say, laid out.
 use borrow.Author.Needs.{needs}
-use Rattle.timing_exports.proofs.Ways.{reset-refuses, refused-leaves, fits-shown, reset-answers, reset-leaves}
+use Rattle.laws.specs.Pick.{told}
+use Rattle.timing_exports.proofs.Ways.{reset-refuses, refused-leaves, reset-answers, reset-leaves}
 use Rattle.timing_exports.proofs.mv_timing_reset_for_branch.Statement.{statement}
 use Rattle.timing_exports.proofs.mv_timing_reset_for_branch.Tie as tie
 
@@ -10,7 +11,7 @@ mv-timing-reset-for-branch-spec =
     (tie.spec
     (λ c κs. search needs)
     (λ c. search (needs, reset-refuses, refused-leaves))
-    (λ c κs. search (needs, fits-shown))
+    (λ c κs. search (needs, told))
     (λ c κs. search needs)
     (λ c κs. search needs)
     (λ c κs. search needs)

@@ -1,6 +1,7 @@
 -- `mv_timing_update` is the library's step on the record that the words say, laid out.
 use borrow.Author.Needs.{needs}
-use Rattle.timing_exports.proofs.Ways.{update-refuses, refused-leaves, fits-shown, unended-previous, unended-answers, unended-leaves, update-answers, update-leaves}
+use Rattle.laws.specs.Pick.{told}
+use Rattle.timing_exports.proofs.Ways.{update-refuses, refused-leaves, unended-previous, unended-answers, unended-leaves, update-answers, update-leaves}
 use Rattle.timing_exports.proofs.mv_timing_update.Statement.{statement}
 use Rattle.timing_exports.proofs.mv_timing_update.Tie as tie
 
@@ -11,8 +12,7 @@ mv-timing-update-spec =
     (λ c κs. search needs)
     (λ c κs. search needs)
     (λ c. search (needs, update-refuses, refused-leaves))
-    (λ c κs. search (needs, fits-shown))
-    (λ c κs. search needs)
+    (λ c κs. search (needs, told))
     (λ c κs. search needs)
     (λ c. search needs)
     (λ c. search needs)

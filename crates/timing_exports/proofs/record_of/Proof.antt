@@ -1,12 +1,10 @@
 -- `record_of` reads word by word; the three that are narrowed fit.
 use borrow.Author.Needs.{needs}
-use Rattle.timing_exports.specs.Flat.{recordOf}
-use Rattle.timing_exports.proofs.Ways.{state-narrow, counter-narrow, bits-narrow}
+use Rattle.timing_exports.proofs.Ways.{state-narrow, counter-narrow, bits-narrow, read-as}
 use Rattle.timing_exports.proofs.record_of.Statement.{statement}
 use Rattle.timing_exports.proofs.record_of.Tie as tie
 
 pub record-of-spec : {M : Type 1} → statement M
-unfolding recordOf
 record-of-spec =
     tie.close
     (tie.spec
@@ -22,4 +20,4 @@ record-of-spec =
     (λ c. search needs)
     (λ c. search needs)
     (λ c. search needs)
-    (λ c. cc))
+    (λ c. search (needs, read-as)))

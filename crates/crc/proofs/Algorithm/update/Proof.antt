@@ -36,22 +36,14 @@ Inv-loop crc bytes poly crc₀ i₀ crc′ i = (i ≤ length bytes) × (run poly
 abbrev μ-loop : tie.MeasureT-loop
 μ-loop crc bytes poly crc₀ i₀ crc′ i = length bytes - i
 
-loop-again : tie.Need-loop-again Inv-loop μ-loop
-loop-again c = (search needs, search (needs, one-more))
-
-returns : tie.Need-returns Inv-loop μ-loop
-returns c = search (needs, at-end)
-
 pub update-spec : {M : Type 1} → statement M
 update-spec =
     tie.close
-    (tie.spec
-    Inv-loop
-    μ-loop
+    (tie.spec Inv-loop μ-loop
     (λ c. (search needs, refl))
     (λ c. search needs)
     (λ c κs. search needs)
     (λ c. search needs)
     (λ c. search needs)
-    loop-again
-    returns)
+    (λ c. (search needs, search (needs, one-more)))
+    (λ c. search (needs, at-end)))

@@ -1,6 +1,5 @@
 -- `Extractor::next` tests number 1 first, then whether anything is unanswered.
 use borrow.Author.Needs.{needs}
-use native.Mathlib.Omega.{arith}
 use denote.Ref.{now}
 use Rattle.extract.proofs.NextWays.{asks-not, asks-fit, asks-nothing, asks-on, some-unanswered}
 use Rattle.extract.proofs.Extractor.next.Statement.{statement}

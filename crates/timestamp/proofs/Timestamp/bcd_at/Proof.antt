@@ -1,6 +1,5 @@
 -- `Timestamp::bcd_at` reads the digits of the word at the place.
 use borrow.Author.Needs.{needs}
-use Rattle.timestamp.specs.Timestamp.{bcdOf}
 use Rattle.timestamp.proofs.Timestamp.bcd_at.Statement.{statement}
 use Rattle.timestamp.proofs.Timestamp.bcd_at.Tie as tie
 

@@ -4,21 +4,12 @@ use borrow.Author.Needs.{needs}
 use Rattle.timing.proofs.HiresOutputTimingState.state_5.Statement.{statement}
 use Rattle.timing.proofs.HiresOutputTimingState.state_5.Tie as tie
 
-returns : tie.Need-returns
-returns c = search (needs, field-starts)
-
-malformed-requires : tie.Need-malformed-requires
-malformed-requires c κs = search needs
-
-malformed-requires-2 : tie.Need-malformed-requires-2
-malformed-requires-2 c κs = search needs
-
-returns-2 : tie.Need-returns-2
-returns-2 c = search (needs, zero-after-end)
-
-returns-3 : tie.Need-returns-3
-returns-3 c = search (needs, zero-in-field)
-
 pub state-5-spec : {M : Type 1} → statement M
 state-5-spec =
-    tie.close (tie.spec returns malformed-requires malformed-requires-2 returns-2 returns-3)
+    tie.close
+    (tie.spec
+    (λ c. search (needs, field-starts))
+    (λ c κs. search needs)
+    (λ c κs. search needs)
+    (λ c. search (needs, zero-after-end))
+    (λ c. search (needs, zero-in-field)))

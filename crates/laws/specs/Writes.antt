@@ -1,16 +1,13 @@
--- A word written byte by byte: one byte more, the whole word, and what `put` makes of its tests.
-use Prim.Native.Nat.{ℕ, _+_, _-_, _≤_, _<_}
+-- A list written into another at a place, an element a turn: none yet, one more, and the whole.
+use Prim.Native.Nat.{ℕ, _+_, _≤_, _<_}
 use native.Mathlib.Numerals.{add-one}
 use native.Mathlib.Omega.{arith}
-use borrow.Author.Tests.{le-leb, lt-leb}
-use mathlib.Core.Path.{_≡_, refl, sym, ap, _∙_}
+use mathlib.Core.Path.{_≡_, ap, _∙_}
 use mathlib.Core.List.{List}
 use lib.ListN.{length, getD, set}
 use lib.Seq.{paste, paste-zero, paste-suc}
-use Rattle.laws.specs.Pick.{pick}
-use Rattle.text.specs.Put.{putOf, putEnd}
 
--- the first i bytes of a word written at a place
+-- the first i bytes of a word written at a place; `paste` itself would be seen through, and no law found by its shape
 unfoldable pub written : List ℕ → ℕ → List ℕ → ℕ → List ℕ
 written d at s i = paste d at s i
 
@@ -25,21 +22,3 @@ written-more d b s at i room more e = let h : at + i < length d = omega arith in
 pub written-whole : (d b s : List ℕ) (at i : ℕ) → i ≤ length s → length s ≤ i → b ≡ written d at s i → b ≡ paste d at s (length s)
 unfolding written
 written-whole d b s at i u v e = let k : i ≡ length s = omega arith in e ∙ ap (paste d at s) k
-
-module _ (d w : List ℕ) (at : ℕ) where
-  pub put-room : at + length w ≤ length d → paste d at w (length w) ≡ putOf d at w
-  unfolding putOf
-  put-room h = simp (le-leb _ _ h)
-
-  pub put-none : length d < at + length w → d ≡ putOf d at w
-  unfolding putOf
-  put-none h = simp (lt-leb _ _ h)
-
-module _ (n at k : ℕ) where
-  pub end-room : at + k ≤ n → at + k ≡ putEnd n at k
-  unfolding putEnd
-  end-room h = simp (le-leb _ _ h)
-
-  pub end-none : n < at + k → at ≡ putEnd n at k
-  unfolding putEnd
-  end-none h = simp (lt-leb _ _ h)
