@@ -21,9 +21,9 @@ use Rattle.timing.specs.Timing.{freshOf}
 use Rattle.timing.specs.Units.{answersOf, unitsFrom}
 use Rattle.kinds.specs.declared.SampleTime.{SampleTime}
 use Rattle.levels.specs.declared.Contribution.{Contribution}
-use Rattle.window.specs.declared.Window.{Window}
-use Rattle.window.specs.Window as Window
-use Rattle.window.specs.Window.{pushedOf}
+use Rattle.window_rules.specs.declared.Window.{Window}
+use Rattle.window_rules.specs.Window as Window
+use Rattle.window_rules.specs.Window.{pushedOf}
 use Rattle.levels.specs.Questions.{bufferedOf}
 
 -- what a case is about

@@ -15,14 +15,14 @@ use Rattle.rules.specs.Request.{directory, closing, body, unit, raise, act, sea
 use Rattle.timing.specs.Timing.{freshOf, countsFitOf, fitsOf, stepOf, updatedOf, startOf, elapsedOf, continuesOf, state0Of, states1to4Of, state5Of, states6to10Of, states11to15Of, fieldEndOf}
 use Rattle.timing.specs.Units.{answersOf, unitsFrom}
 use Rattle.cases.specs.Cases.{Row, outcomeOf, table, same, right}
-use Rattle.window.specs.Depth.{sampledOf, leftOf, addedOf, sampledSubstreamOf, leftSubstreamOf, addedSubstreamOf}
+use Rattle.window_rules.specs.Depth.{sampledOf, leftOf, addedOf, sampledSubstreamOf, leftSubstreamOf, addedSubstreamOf}
 use Rattle.levels.specs.Index.{every as everyIndex}
-use Rattle.window.specs.Index.{highest}
-use Rattle.window.specs.Levels.{eachDepth, eachSubstream, drainedOf, underrunOf, addedLevelsOf, totalsOf, freshLevelsOf}
+use Rattle.window_rules.specs.Index.{highest}
+use Rattle.window_rules.specs.Levels.{eachDepth, eachSubstream, drainedOf, underrunOf, addedLevelsOf, totalsOf, freshLevelsOf}
 use Rattle.levels.specs.Questions.{heldOf, bufferedOf}
 use Rattle.levels.specs.Numbers as Numbers
-use Rattle.window.specs.Rings.{freshFive, freshFour, freshRingsOf, writtenFive, writtenFour, writtenOf, contributionFrom}
-use Rattle.window.specs.Window as Window
+use Rattle.window_rules.specs.Rings.{freshFive, freshFour, freshRingsOf, writtenFive, writtenFour, writtenOf, contributionFrom}
+use Rattle.window_rules.specs.Window as Window
 
 right-table : T (every right 0 table)
 unfolding table same outcomeOf firstFrom within looped onward request ask arrived decide moved settle bcdOf rateOf stampOf fieldsOf parseOf candidateAt find stampAt syncLength unitLength checks candidate directory closing body unit raise act search stepBy sizeOf freshOf countsFitOf fitsOf stepOf updatedOf startOf elapsedOf continuesOf state0Of states1to4Of state5Of states6to10Of states11to15Of fieldEndOf answersOf unitsFrom sampledOf leftOf addedOf sampledSubstreamOf leftSubstreamOf addedSubstreamOf everyIndex highest eachDepth eachSubstream drainedOf underrunOf addedLevelsOf totalsOf heldOf freshLevelsOf Numbers.depthFits Numbers.depthsFit Numbers.substreamsFit Numbers.fitsOf Numbers.allSmall Numbers.smallOf Numbers.roomAt Numbers.depthRoom Numbers.depthsRoom Numbers.substreamsRoom Numbers.roomOf freshFive freshFour freshRingsOf writtenFive writtenFour writtenOf contributionFrom Window.freshOf Window.drainOf Window.steppedOf Window.refusedOf Window.answerOf Window.pushedOf bufferedOf

@@ -14,7 +14,7 @@ use Rattle.extract.specs.declared.Pushed.{Pushed}
 use Rattle.extract.specs.declared.Answer.{Answer}
 use Rattle.extract.specs.declared.Answer.the-variants.{Unit as AUnit, InvalidAccessUnitLength, ParityCheckFailed, InsufficientData, Quiet, Record}
 use Rattle.laws.specs.Flags.{flagOf}
-use Rattle.exports.specs.Words.{stampOn, leftOn, readerOn}
+use Rattle.record_words.specs.Words.{stampOn, leftOn, readerOn}
 
 -- OPENING: number 1 where it is refused; then nothing is written
 abbrev pub openedNumber : Opened → ℕ

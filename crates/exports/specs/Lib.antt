@@ -1,4 +1,3 @@
--- The words of a record and of the answers, cited by the contracts, and that they are read back as they were laid.
-pub mod Words
+-- The answers of the calls as words, cited by the contracts, and that records are read back as they were laid.
 pub mod Answers
 pub mod WordLaws

@@ -1,13 +1,12 @@
 -- Laws: the words that a call leaves are read by the next call as the record that the library left. So a chain of exported calls is the chain of the
 -- library's. A record's numbers are of any size in the logic; `Held` says of them what their types say of every value that runs.
-use Prim.Native.Nat.{ℕ, _≤_, _<_, _/_, _%_}
+use Prim.Native.Nat.{ℕ, _<_, _/_, _%_}
 use native.Mathlib.Omega.{arith}
 use mathlib.Core.Path.{_≡_, refl, subst}
 use mathlib.Core.Bool.{Bool, true, false}
 use mathlib.Core.List.{List, [], _∷_}
 use lib.Dec.{eqb}
 use lib.ListN.{length}
-use borrow.Author.Tests.{lt-ltb, le-ltb}
 use Rattle.machine.specs.Always.{AfterRequest}
 use Rattle.machine.specs.Scan as Scan
 use Rattle.crc.specs.declared.Algorithm.{Algorithm}
@@ -31,7 +30,8 @@ use Rattle.extract.specs.declared.PushAnswer.{PushAnswer}
 use Rattle.extract.specs.declared.PushAnswer.the-variants.{Accepted, Record as PushRecord, Pushes, Total, Room}
 use Rattle.extract.specs.declared.Answer.the-variants.{InsufficientData, Quiet, Record as BadRecord}
 use Rattle.extract.specs.declared.Asked.{Asked}
-use Rattle.exports.specs.Words.{half, upTo, rateCode, stampOf, waitingOf, stampWords, stampOn, checkOf, streamOf, readerOf, leftOn, readerOn}
+use Rattle.record_words.specs.Words.{half, rateCode, stampOf, waitingOf, stampWords, stampOn, checkOf, streamOf, readerOf, leftOn, readerOn}
+use Rattle.record_words.specs.UpToLaws.{up-to}
 use Rattle.exports.specs.Answers.{placedOn, pushedOn, askedNumber, askedOn}
 
 -- 1. A number goes into its word and back.
@@ -41,13 +41,6 @@ half-of n h = omega arith
 
 low : (n : ℕ) → n < 256 → n % 256 ≡ n
 low n h = omega arith
-
--- what is below its limit is read as it is, and what isn't as the limit
-pub up-to : (limit n : ℕ) → n < limit → n ≡ upTo limit n
-up-to limit n h = rw (lt-ltb n limit h)
-
-pub capped : (limit n : ℕ) → limit ≤ n → limit ≡ upTo limit n
-capped limit n h = rw (le-ltb n limit h)
 
 -- 2. A timestamp: the rate is the one that its code says, and the numbers are what their types hold.
 

@@ -52,7 +52,7 @@ use rules::Losses;
 use rules::Stream;
 use rules::Waiting;
 use timing::HiresOutputTimingState;
-use window::Window;
+use window_rules::Window;
 
 // The records that are kept from call to call.
 struct Records {
@@ -273,7 +273,7 @@ fn fresh() -> Session {
         extractor,
     };
     let timing = HiresOutputTimingState::fresh();
-    let window = Window::fresh();
+    let window = window::fresh();
     let records = Records {
         reader,
         timing,

@@ -31,7 +31,7 @@ use timestamp::Framerate;
 use timestamp::Timestamp;
 use timing::HiresOutputTimingState;
 use timing::HiresTimingFault;
-use window::Underrun;
+use window_rules::Underrun;
 
 // A number that says which of some texts is meant, and a number in that text.
 struct Choice {

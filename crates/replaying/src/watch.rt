@@ -28,7 +28,7 @@ use levels::Contribution;
 use timing::HiresOutputTimingState;
 use timing::TimingContext;
 use timing::Updated;
-use window::Window;
+use window_rules::Window;
 
 pub(crate) struct Timed {
     pub timing: HiresOutputTimingState,
@@ -159,7 +159,7 @@ fn window_step(w: Window, n: Numbers) -> Windowed {
         return unwindowed(w);
     }
     let v = n.value;
-    let pushed = w.push(SampleTime(v[0]), SampleTime(v[1]), contribution_of(v));
+    let pushed = window::push(w, SampleTime(v[0]), SampleTime(v[1]), contribution_of(v));
     let report = pushed.report;
     let underrun = report.underrun;
     let depths = report.depths;
@@ -170,7 +170,7 @@ fn window_step(w: Window, n: Numbers) -> Windowed {
 
 // `window restart`
 fn window_restart(w: Window) -> Windowed {
-    let r = w.restart();
+    let r = window::restart(w);
     let answer = r.answer;
     let next = r.window;
     windowed_line(next, window_part(answer), nothing())
@@ -200,7 +200,7 @@ pub(crate) fn window_call(w: Window, line: &[u8], from: usize) -> Windowed {
     match number {
         0 => window_step(w, numbers_from(line, call.to, 16)),
         1 => window_restart(w),
-        2 => windowed_line(Window::fresh(), made(WINDOW, 0, 0, 0), nothing()),
+        2 => windowed_line(window::fresh(), made(WINDOW, 0, 0, 0), nothing()),
         3 => window_forge(w, line, call.to),
         _ => unwindowed(w),
     }

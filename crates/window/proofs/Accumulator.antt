@@ -2,7 +2,7 @@
 use Prim.Native.Nat.{ℕ, _-_, _≤_, _<_}
 use mathlib.Core.Path.{_≡_}
 use borrow.Author.Tests.{lt-ltb, le-ltb, le-leb, lt-leb}
-use Rattle.window.specs.Depth.{sampledOf, leftOf, sampledSubstreamOf, leftSubstreamOf}
+use Rattle.window_rules.specs.Depth.{sampledOf, leftOf, sampledSubstreamOf, leftSubstreamOf}
 use Rattle.levels.specs.declared.Peak.{Peak}
 use Rattle.levels.specs.declared.Depth.{Depth}
 use Rattle.levels.specs.declared.SubstreamDepth.{SubstreamDepth}

@@ -3,9 +3,9 @@ use Prim.Native.Nat.{ℕ, _+_, _%_}
 use mathlib.Core.Path.{_≡_}
 use mathlib.Core.List.{List, [], _∷_}
 use lib.ListN.{getD}
-use Rattle.window.specs.Depth.{leftOf, addedOf, leftSubstreamOf, addedSubstreamOf}
+use Rattle.window_rules.specs.Depth.{leftOf, addedOf, leftSubstreamOf, addedSubstreamOf}
 use Rattle.levels.specs.Levels.{depthAt, substreamAt}
-use Rattle.window.specs.Levels.{eachDepth, eachSubstream, drainedOf, addedLevelsOf}
+use Rattle.window_rules.specs.Levels.{eachDepth, eachSubstream, drainedOf, addedLevelsOf}
 use Rattle.levels.specs.declared.Contribution.{Contribution}
 use Rattle.levels.specs.declared.Depth.{Depth}
 use Rattle.levels.specs.declared.SubstreamDepth.{SubstreamDepth}

@@ -4,9 +4,9 @@ use native.Mathlib.Omega.{arith}
 use mathlib.Core.Path.{_≡_, sym, ap, _∙_}
 use mathlib.Core.Bool.{Bool, true, false}
 use Rattle.laws.specs.Turns.{less-one}
-use Rattle.window.specs.Index.{highest}
-use Rattle.window.specs.declared.Underrun.{Underrun}
-use Rattle.window.specs.declared.Underrun.the-variants.{Nothing, At}
+use Rattle.window_rules.specs.Index.{highest}
+use Rattle.window_rules.specs.declared.Underrun.{Underrun}
+use Rattle.window_rules.specs.declared.Underrun.the-variants.{Nothing, At}
 
 -- a loop from the top: the whole is what is left to look at
 module _ {whole : Underrun} (n : ℕ) (p : ℕ → Bool) (same : whole ≡ highest n p) where

@@ -1,8 +1,8 @@
 -- Any two outcomes that a public call's contract allows are equal: the contract is an equation.
 use mathlib.Core.Path.{_≡_, sym, _∙_}
-use Rattle.window.proofs.Window.fresh.Reads as fresh
-use Rattle.window.proofs.Window.push.Reads as push
-use Rattle.window.proofs.Window.restart.Reads as restart
+use Rattle.window.proofs.fresh.Reads as fresh
+use Rattle.window.proofs.push.Reads as push
+use Rattle.window.proofs.restart.Reads as restart
 
 pub fresh-one : (κs : _) (a : _) (r r′ : _) (e e′ : _) → fresh.Post κs a r e → fresh.Post κs a r′ e′ → r ≡ r′
 fresh-one κs a r r′ e e′ p q = p ∙ sym q

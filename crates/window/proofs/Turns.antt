@@ -5,15 +5,15 @@ use native.Mathlib.Nat.{mod-lt}
 use mathlib.Core.Path.{_≡_, sym, ap, _∙_}
 use mathlib.Core.Bool.{Bool, true, false}
 use Rattle.kinds.specs.declared.SampleTime.{SampleTime}
-use Rattle.window.specs.Levels.{drainedOf, underrunOf}
-use Rattle.window.specs.Rings.{contributionAt}
-use Rattle.window.specs.Window.{passedAt, drainOf}
+use Rattle.window_rules.specs.Levels.{drainedOf, underrunOf}
+use Rattle.window_rules.specs.Rings.{contributionAt}
+use Rattle.window_rules.specs.Window.{passedAt, drainOf}
 use Rattle.levels.specs.declared.Contribution.{Contribution}
 use Rattle.levels.specs.declared.Levels.{Levels}
-use Rattle.window.specs.declared.Rings.{Rings}
-use Rattle.window.specs.declared.Drained.{Drained}
-use Rattle.window.specs.declared.Underrun.{Underrun}
-use Rattle.window.specs.declared.Underrun.the-variants.{Nothing, At}
+use Rattle.window_rules.specs.declared.Rings.{Rings}
+use Rattle.window_rules.specs.declared.Drained.{Drained}
+use Rattle.window_rules.specs.declared.Underrun.{Underrun}
+use Rattle.window_rules.specs.declared.Underrun.the-variants.{Nothing, At}
 use Rattle.laws.specs.Turns.{less-one}
 
 pub slot-read : (l : Levels) (c : Contribution) {m : Levels} → m ≡ drainedOf l c → m .read < 128

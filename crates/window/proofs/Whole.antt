@@ -5,26 +5,26 @@ use mathlib.Core.Bool.{Bool, true, false}
 use mathlib.Core.List.{List, [], _∷_}
 use lib.ListN.{set, replicate}
 use Rattle.kinds.specs.declared.SampleTime.{SampleTime}
-use Rattle.window.specs.Depth.{emptiedOf, emptiedSubstreamOf}
+use Rattle.window_rules.specs.Depth.{emptiedOf, emptiedSubstreamOf}
 use Rattle.levels.specs.Levels.{depthAt, substreamAt}
-use Rattle.window.specs.Levels.{emptiedDepthsOf, emptiedSubstreamsOf, freshLevelsOf, restartedLevelsOf, addedLevelsOf, totalsOf}
+use Rattle.window_rules.specs.Levels.{emptiedDepthsOf, emptiedSubstreamsOf, freshLevelsOf, restartedLevelsOf, addedLevelsOf, totalsOf}
 use Rattle.levels.specs.Numbers.{fitsOf, smallOf, roomOf}
-use Rattle.window.specs.Rings.{freshFive, freshFour, freshRingsOf, writtenFive, writtenFour, writtenOf}
-use Rattle.window.specs.Window.{answerOf, drainOf, steppedOf, refusedOf, pushedOf, freshOf, restartedOf}
+use Rattle.window_rules.specs.Rings.{freshFive, freshFour, freshRingsOf, writtenFive, writtenFour, writtenOf}
+use Rattle.window_rules.specs.Window.{answerOf, drainOf, steppedOf, refusedOf, pushedOf, freshOf, restartedOf}
 use Rattle.levels.specs.declared.Contribution.{Contribution}
-use Rattle.window.specs.declared.Drained.{Drained}
-use Rattle.window.specs.declared.Pushed.{Pushed}
+use Rattle.window_rules.specs.declared.Drained.{Drained}
+use Rattle.window_rules.specs.declared.Pushed.{Pushed}
 use Rattle.levels.specs.declared.Depth.{Depth}
 use Rattle.levels.specs.declared.SubstreamDepth.{SubstreamDepth}
 use Rattle.levels.specs.declared.Levels.{Levels}
-use Rattle.window.specs.declared.FiveRings.{FiveRings}
-use Rattle.window.specs.declared.FourRings.{FourRings}
-use Rattle.window.specs.declared.Rings.{Rings}
-use Rattle.window.specs.declared.Window.{Window}
-use Rattle.window.specs.declared.Restarted.{Restarted}
+use Rattle.window_rules.specs.declared.FiveRings.{FiveRings}
+use Rattle.window_rules.specs.declared.FourRings.{FourRings}
+use Rattle.window_rules.specs.declared.Rings.{Rings}
+use Rattle.window_rules.specs.declared.Window.{Window}
+use Rattle.window_rules.specs.declared.Restarted.{Restarted}
 use Rattle.levels.specs.declared.Answer.the-variants.{Accepted, RecordDoesNotFit, ContributionTooLarge, DepthTooLarge}
 use Rattle.levels.specs.NumberLaws.{write-of-fit}
-use Rattle.window.proofs.Keeps.{drain-room, drain-write}
+use Rattle.window_rules.specs.KeepLaws.{drain-room, drain-write}
 
 pub emptied-five : (depth : List Depth) {a b c d e : Depth} → a ≡ emptiedOf (depthAt depth 0) → b ≡ emptiedOf (depthAt depth 1) → c ≡ emptiedOf (depthAt depth 2)
     → d ≡ emptiedOf (depthAt depth 3) → e ≡ emptiedOf (depthAt depth 4) → a ∷ b ∷ c ∷ d ∷ e ∷ [] ≡ emptiedDepthsOf depth

@@ -3,10 +3,9 @@
 ghost use mathlib.Core.Path.{_≡_};
 ghost use mathlib.Core.Bool.{true};
 ghost use Prim.Native.Nat.{_<_};
-ghost use Rattle.window.specs.Depth.{leftOf, addedOf, leftSubstreamOf, addedSubstreamOf};
-ghost use Rattle.window.specs.Levels.{eachDepth, eachSubstream, drainedOf, addedLevelsOf, underrunOf, totalsOf, emptiedDepthsOf, emptiedSubstreamsOf, restartedLevelsOf, freshLevelsOf};
+ghost use Rattle.window_rules.specs.Depth.{leftOf, addedOf, leftSubstreamOf, addedSubstreamOf};
+ghost use Rattle.window_rules.specs.Levels.{eachDepth, eachSubstream, drainedOf, addedLevelsOf, underrunOf, totalsOf, emptiedDepthsOf, emptiedSubstreamsOf, restartedLevelsOf, freshLevelsOf};
 ghost use Rattle.levels.specs.Numbers.{depthsRoom, substreamsRoom, roomOf};
-use crate::Underrun;
 use crate::single::add;
 use crate::single::add_substream;
 use crate::single::emptied;
@@ -18,6 +17,7 @@ use levels::Depth;
 use levels::Levels;
 use levels::Peak;
 use levels::SubstreamDepth;
+use window_rules::Underrun;
 
 fn leave_depths(depth: [Depth; 5], contribution: Contribution) -> [Depth; 5]
     ensures { λ r. ⌜ r ≡ eachDepth leftOf depth contribution ⌝ }

@@ -4,9 +4,8 @@
 // decoders, and the whole stream. A unit's bytes stay until the playhead is strictly above its removal time. A window goes in by value
 // and comes back; a call that refuses hands it back as it was.
 //
-// The window has two parts. The rings hold the units in flight, a slot each; the levels are the small rest: slot numbers, depths and
-// peaks (crate `levels`, which also answers what is asked of a window). The loop that drains changes the levels alone, so no ring is
-// copied in it.
+// The rules are in `window_rules`, with the types; what is asked of a window needs its levels alone (crate `levels`). The loop that drains
+// changes the levels alone, so no ring is copied in it.
 mod single; // one accumulator, one substream
 mod every; // all of them, and what one slot does to the levels
 mod slots; // the rings and the drain
@@ -14,7 +13,7 @@ mod slots; // the rings and the drain
 ghost use mathlib.Core.Path.{_≡_};
 ghost use mathlib.Core.Bool.{true};
 ghost use Rattle.levels.specs.Numbers.{fitsOf, roomOf};
-ghost use Rattle.window.specs.Window.{freshOf, steppedOf, refusedOf, pushedOf, restartedOf};
+ghost use Rattle.window_rules.specs.Window.{freshOf, steppedOf, refusedOf, pushedOf, restartedOf};
 use every::add_slot;
 use every::fresh_levels;
 use every::restart_levels;
@@ -22,77 +21,17 @@ use every::totals;
 use kinds::SampleTime;
 use levels::Answer;
 use levels::Contribution;
-use levels::Levels;
 use levels::numbers::fits;
 use levels::numbers::room;
 use levels::numbers::small;
 use slots::drain;
 use slots::fresh_rings;
 use slots::write_slot;
-
-// A ring for each accumulator, of its bytes or of their stream part.
-#[repr(C)]
-pub struct FiveRings {
-    pub ring0: [u32; 128],
-    pub ring1: [u32; 128],
-    pub ring2: [u32; 128],
-    pub ring3: [u32; 128],
-    pub ring4: [u32; 128],
-}
-
-// A ring for each substream, of its bytes.
-#[repr(C)]
-pub struct FourRings {
-    pub ring0: [u32; 128],
-    pub ring1: [u32; 128],
-    pub ring2: [u32; 128],
-    pub ring3: [u32; 128],
-}
-
-// The units in flight: slot i of every ring belongs to the same unit.
-#[repr(C)]
-pub struct Rings {
-    pub removal: [u64; 128],
-    pub total: FiveRings,
-    pub stream: FiveRings,
-    pub substream: FourRings,
-}
-
-#[repr(C)]
-pub struct Window {
-    pub rings: Rings,
-    pub levels: Levels,
-}
-
-// The accumulator that held fewer bytes than the unit leaving it, if any.
-pub enum Underrun {
-    Nothing,
-    At(usize),
-}
-
-// What a step did to the window: each accumulator's depth with the new unit included.
-pub struct Report {
-    pub depths: [u64; 5],
-    pub underrun: Underrun,
-}
-
-pub struct Pushed {
-    pub window: Window,
-    pub report: Report,
-    pub answer: Answer,
-}
-
-// What a restart gives back.
-pub struct Restarted {
-    pub window: Window,
-    pub answer: Answer,
-}
-
-// The levels after a drain, and whether the last record drained left an accumulator short.
-pub struct Drained {
-    pub levels: Levels,
-    pub underrun: Underrun,
-}
+use window_rules::Pushed;
+use window_rules::Report;
+use window_rules::Restarted;
+use window_rules::Underrun;
+use window_rules::Window;
 
 // A step that is accepted: write the slot, drain, add.
 fn step(
@@ -141,59 +80,57 @@ fn refused(window: Window, answer: Answer) -> Pushed
     }
 }
 
-impl Window {
-    // A window that never held a unit.
-    pub fn fresh() -> Window
-        ensures { λ r. ⌜ r ≡ freshOf ⌝ }
-    {
-        let rings = fresh_rings();
-        let levels = fresh_levels();
-        Window { rings, levels }
-    }
+// A window that never held a unit.
+pub fn fresh() -> Window
+    ensures { λ r. ⌜ r ≡ freshOf ⌝ }
+{
+    let rings = fresh_rings();
+    let levels = fresh_levels();
+    Window { rings, levels }
+}
 
-    // Admits a unit and drains every slot that playback has strictly passed. Numbers 1, 12 and 13, in this order, hand the window back
-    // as it was.
-    pub fn push(
-        self,
-        playhead: SampleTime,
-        removal: SampleTime,
-        contribution: Contribution,
-    ) -> Pushed
-        ensures { λ r. ⌜ r ≡ pushedOf self playhead removal contribution ⌝ }
-    {
-        let levels = self.levels;
-        if fits(levels) {} else {
-            return refused(self, Answer::RecordDoesNotFit);
-        }
-        if small(contribution) {} else {
-            return refused(self, Answer::ContributionTooLarge);
-        }
-        if room(levels, contribution) {} else {
-            return refused(self, Answer::DepthTooLarge);
-        }
-        step(self, playhead, removal, contribution)
+// Admits a unit and drains every slot that playback has strictly passed. Numbers 1, 12 and 13, in this order, hand the window back
+// as it was.
+pub fn push(
+    window: Window,
+    playhead: SampleTime,
+    removal: SampleTime,
+    contribution: Contribution,
+) -> Pushed
+    ensures { λ r. ⌜ r ≡ pushedOf window playhead removal contribution ⌝ }
+{
+    let levels = window.levels;
+    if fits(levels) {} else {
+        return refused(window, Answer::RecordDoesNotFit);
     }
+    if small(contribution) {} else {
+        return refused(window, Answer::ContributionTooLarge);
+    }
+    if room(levels, contribution) {} else {
+        return refused(window, Answer::DepthTooLarge);
+    }
+    step(window, playhead, removal, contribution)
+}
 
-    // Drops every unit in flight and starts the window again, keeping the peaks.
-    pub fn restart(self) -> Restarted
-        ensures { λ r. ⌜ r ≡ restartedOf self ⌝ }
-    {
-        let levels = self.levels;
-        if fits(levels) {} else {
-            return Restarted {
-                window: self,
-                answer: Answer::RecordDoesNotFit,
-            };
-        }
-        let rings = fresh_rings();
-        let emptied = restart_levels(levels);
-        let window = Window {
-            rings,
-            levels: emptied,
-        };
-        Restarted {
+// Drops every unit in flight and starts the window again, keeping the peaks.
+pub fn restart(window: Window) -> Restarted
+    ensures { λ r. ⌜ r ≡ restartedOf window ⌝ }
+{
+    let levels = window.levels;
+    if fits(levels) {} else {
+        return Restarted {
             window,
-            answer: Answer::Accepted,
-        }
+            answer: Answer::RecordDoesNotFit,
+        };
+    }
+    let rings = fresh_rings();
+    let emptied = restart_levels(levels);
+    let after = Window {
+        rings,
+        levels: emptied,
+    };
+    Restarted {
+        window: after,
+        answer: Answer::Accepted,
     }
 }

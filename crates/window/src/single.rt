@@ -2,7 +2,7 @@
 ghost use mathlib.Core.Path.{_≡_};
 ghost use mathlib.Core.Bool.{true};
 ghost use Prim.Native.Nat.{_-_};
-ghost use Rattle.window.specs.Depth.{sampledOf, leftOf, addedOf, sampledSubstreamOf, leftSubstreamOf, addedSubstreamOf, emptiedOf, emptiedSubstreamOf};
+ghost use Rattle.window_rules.specs.Depth.{sampledOf, leftOf, addedOf, sampledSubstreamOf, leftSubstreamOf, addedSubstreamOf, emptiedOf, emptiedSubstreamOf};
 ghost use Rattle.levels.specs.Numbers.{roomAt, depthRoom};
 use levels::Depth;
 use levels::Peak;

@@ -1,18 +1,18 @@
 // The slots: rings of 128, and the drain that reads them.
 ghost use mathlib.Core.Path.{_≡_};
 ghost use Prim.Native.Nat.{_<_};
-ghost use Rattle.window.specs.Rings.{freshFive, freshFour, freshRingsOf, writtenFive, writtenFour, writtenOf, contributionFrom};
-ghost use Rattle.window.specs.Window.{drainOf};
-use crate::Drained;
-use crate::FiveRings;
-use crate::FourRings;
-use crate::Rings;
-use crate::Underrun;
+ghost use Rattle.window_rules.specs.Rings.{freshFive, freshFour, freshRingsOf, writtenFive, writtenFour, writtenOf, contributionFrom};
+ghost use Rattle.window_rules.specs.Window.{drainOf};
 use crate::every::drain_slot;
 use crate::every::highest_underrun;
 use kinds::SampleTime;
 use levels::Contribution;
 use levels::Levels;
+use window_rules::Drained;
+use window_rules::FiveRings;
+use window_rules::FourRings;
+use window_rules::Rings;
+use window_rules::Underrun;
 
 fn fresh_five() -> FiveRings
     ensures { λ r. ⌜ r ≡ freshFive ⌝ }

@@ -14,8 +14,8 @@ use text::column;
 use text::line;
 use text::number;
 use text::word;
-use window::Underrun;
-use window::Window;
+use window_rules::Underrun;
+use window_rules::Window;
 
 // The same bytes for every accumulator and every substream.
 fn even(total: u32, stream: u32, substream: u32) -> Contribution {
@@ -57,7 +57,7 @@ fn push(w: Window, playhead: u64, removal: u64, c: Contribution) -> Window {
     column(playhead);
     word(b" removal ");
     column(removal);
-    let pushed = w.push(SampleTime(playhead), SampleTime(removal), c);
+    let pushed = window::push(w, SampleTime(playhead), SampleTime(removal), c);
     let report = pushed.report;
     let taken = pushed.answer;
     answer(taken);
@@ -152,7 +152,7 @@ fn show(w: Window) {
 
 fn equal_playhead() {
     word(b"P9: a playhead equal to the removal time drains nothing; one past it drains\n");
-    let a = push(Window::fresh(), 0, 5, even(10, 8, 2));
+    let a = push(window::fresh(), 0, 5, even(10, 8, 2));
     let b = push(a, 5, 9, even(20, 15, 3));
     let c = push(b, 6, 9, even(40, 30, 4));
     show(c);
@@ -160,7 +160,7 @@ fn equal_playhead() {
 
 fn kept_slots() {
     word(b"drained slots keep their numbers: the third step meets the first unit again\n");
-    let a = push(Window::fresh(), 0, 5, even(10, 8, 2));
+    let a = push(window::fresh(), 0, 5, even(10, 8, 2));
     let b = push(a, 6, 5, even(0, 0, 0));
     let c = push(b, 7, 100, even(0, 0, 0));
     show(c);
@@ -168,7 +168,7 @@ fn kept_slots() {
 
 fn full_ring() {
     word(b"a fresh window, one step: 128 slots are drained, and no more\n");
-    let a = push(Window::fresh(), 1, 0, even(0, 0, 0));
+    let a = push(window::fresh(), 1, 0, even(0, 0, 0));
     show(a);
 }
 
@@ -184,7 +184,7 @@ fn highest() {
         stream,
         substream,
     };
-    let a = push(Window::fresh(), 0, 5, c);
+    let a = push(window::fresh(), 0, 5, c);
     let b = push(a, 6, 5, even(0, 0, 0));
     let d = push(b, 7, 100, even(1, 1, 1));
     show(d);
@@ -192,7 +192,7 @@ fn highest() {
 
 fn overhead() {
     word(b"a stream part above the total: the overhead of the peak is 0\n");
-    let a = push(Window::fresh(), 0, 5, even(3, 8, 2));
+    let a = push(window::fresh(), 0, 5, even(3, 8, 2));
     show(a);
 }
 
@@ -200,7 +200,7 @@ fn floors() {
     word(
         b"stream and substream parts stop at 0: the third step drains the first unit a second time\n",
     );
-    let a = push(Window::fresh(), 0, 5, even(0, 8, 2));
+    let a = push(window::fresh(), 0, 5, even(0, 8, 2));
     let b = push(a, 6, 5, even(0, 0, 0));
     let c = push(b, 7, 100, even(9, 1, 1));
     show(c);
@@ -208,10 +208,10 @@ fn floors() {
 
 // So many units, all held until 1000.
 fn filled(n: u64) -> Window {
-    let mut w = Window::fresh();
+    let mut w = window::fresh();
     let mut left = n;
     while 0 < left {
-        let pushed = w.push(SampleTime(0), SampleTime(1000), even(1, 1, 1));
+        let pushed = window::push(w, SampleTime(0), SampleTime(1000), even(1, 1, 1));
         w = pushed.window;
         left -= 1;
     }
@@ -233,7 +233,7 @@ fn overwritten() {
 
 fn contributions() {
     word(b"a contribution of 16,384 is taken; one of 16,385, of any kind, is number 12\n");
-    let a = push(Window::fresh(), 0, 5, even(16384, 16384, 16384));
+    let a = push(window::fresh(), 0, 5, even(16384, 16384, 16384));
     let b = push(a, 6, 9, even(16385, 0, 0));
     let c = push(b, 6, 9, even(0, 16385, 0));
     let d = push(c, 6, 9, even(0, 0, 16385));
@@ -261,7 +261,7 @@ fn deep(total: u64, stream: u64, bytes: u64) -> Window {
         depth,
         substream,
     };
-    let fresh = Window::fresh();
+    let fresh = window::fresh();
     let rings = fresh.rings;
     Window { rings, levels }
 }
@@ -293,7 +293,7 @@ fn before_the_drain() {
 
 // A fresh window with other slot numbers.
 fn at_slots(read: usize, write: usize) -> Window {
-    let fresh = Window::fresh();
+    let fresh = window::fresh();
     let rings = fresh.rings;
     let before = fresh.levels;
     let depth = before.depth;
@@ -309,10 +309,10 @@ fn at_slots(read: usize, write: usize) -> Window {
 
 // The answer of every call that takes a window, and whether a refused one came back with its slot numbers.
 fn every_call(w: Window) {
-    let pushed = w.push(SampleTime(0), SampleTime(0), even(16385, 0, 0));
+    let pushed = window::push(w, SampleTime(0), SampleTime(0), even(16385, 0, 0));
     let a = pushed.answer;
     answer(a);
-    let restarted = w.restart();
+    let restarted = window::restart(w);
     let b = restarted.answer;
     answer(b);
     let levels = w.levels;
@@ -393,9 +393,9 @@ fn restarted() {
     word(
         b"restart makes the window new, peaks excepted: no old record is left for the last step to meet\n",
     );
-    let a = push(Window::fresh(), 0, 0, even(0, 0, 0));
+    let a = push(window::fresh(), 0, 0, even(0, 0, 0));
     let b = push(a, 0, 0, single());
-    let r = b.restart();
+    let r = window::restart(b);
     word(b"  restart");
     let answered = r.answer;
     answer(answered);

@@ -2,10 +2,10 @@
 use Prim.Native.Nat.{ℕ}
 use Rattle.kinds.specs.declared.SampleTime.{SampleTime}
 use Rattle.levels.specs.Numbers.{numberOf}
-use Rattle.window.specs.declared.Underrun.{Underrun}
-use Rattle.window.specs.declared.Underrun.the-variants.{Nothing, At}
-use Rattle.window.specs.declared.Pushed.{Pushed}
-use Rattle.window.specs.declared.Restarted.{Restarted}
+use Rattle.window_rules.specs.declared.Underrun.{Underrun}
+use Rattle.window_rules.specs.declared.Underrun.the-variants.{Nothing, At}
+use Rattle.window_rules.specs.declared.Pushed.{Pushed}
+use Rattle.window_rules.specs.declared.Restarted.{Restarted}
 use Rattle.levels.specs.declared.Buffered.{Buffered}
 use Rattle.levels.specs.declared.Peaks.{Peaks}
 use Rattle.levels.specs.declared.PeakRecords.{PeakRecords}

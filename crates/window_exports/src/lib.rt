@@ -6,7 +6,7 @@
 ghost use mathlib.Core.Path.{_≡_};
 ghost use Rattle.byte_caps.specs.Caps.{fbaCapOf, fbbCapOf};
 ghost use Rattle.levels.specs.Numbers.{numberOf};
-ghost use Rattle.window.specs.Window.{freshOf, pushedOf, restartedOf};
+ghost use Rattle.window_rules.specs.Window.{freshOf, pushedOf, restartedOf};
 ghost use Rattle.levels.specs.Questions.{bufferedOf, peaksOf, peakRecordsOf, substreamPeaksOf};
 ghost use Rattle.window_exports.specs.Flat.{timeOf, underrunFlat, pushedFlat, restartedFlat, bufferedFlat, peaksFlat, peakRecordsFlat, substreamPeaksFlat, capFlat};
 use byte_caps::Cap;
@@ -16,8 +16,8 @@ use kinds::SampleTime;
 use levels::Answer;
 use levels::Contribution;
 use levels::Peak;
-use window::Underrun;
-use window::Window;
+use window_rules::Underrun;
+use window_rules::Window;
 
 // The accumulator that an underrun names, if `present` says that there is one; zeros elsewhere.
 #[repr(C)]
@@ -131,7 +131,7 @@ fn cap_flat(c: Cap) -> MvCap
 pub extern "C" fn mv_window_fresh() -> Window
     ensures { λ r. ⌜ r ≡ freshOf ⌝ }
 {
-    Window::fresh()
+    window::fresh()
 }
 
 // Admits a unit and drains every slot that playback has strictly passed; numbers 1, 12 and 13.
@@ -144,7 +144,12 @@ pub extern "C" fn mv_window_push(
 ) -> MvPushed
     ensures { λ r. ⌜ r ≡ pushedFlat (pushedOf window (timeOf playhead) (timeOf removal) contribution) ⌝ }
 {
-    let pushed = window.push(SampleTime(playhead), SampleTime(removal), contribution);
+    let pushed = window::push(
+        window,
+        SampleTime(playhead),
+        SampleTime(removal),
+        contribution,
+    );
     let after = pushed.window;
     let report = pushed.report;
     let depths = report.depths;
@@ -163,7 +168,7 @@ pub extern "C" fn mv_window_push(
 pub extern "C" fn mv_window_restart(window: Window) -> MvRestarted
     ensures { λ r. ⌜ r ≡ restartedFlat (restartedOf window) ⌝ }
 {
-    let restarted = window.restart();
+    let restarted = window::restart(window);
     let after = restarted.window;
     let answer = restarted.answer;
     MvRestarted {

@@ -1,6 +1,6 @@
 -- It is the definition, field by field.
 use mathlib.Core.Path.{refl}
-use Rattle.window.specs.Window.{refusedOf}
+use Rattle.window_rules.specs.Window.{refusedOf}
 use Rattle.window.proofs.refused.Statement.{statement}
 use Rattle.window.proofs.refused.Tie as tie
 

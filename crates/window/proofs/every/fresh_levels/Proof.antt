@@ -1,6 +1,6 @@
 -- It is the definition, field by field.
 use mathlib.Core.Path.{refl}
-use Rattle.window.specs.Levels.{freshLevelsOf}
+use Rattle.window_rules.specs.Levels.{freshLevelsOf}
 use Rattle.window.proofs.every.fresh_levels.Statement.{statement}
 use Rattle.window.proofs.every.fresh_levels.Tie as tie
 

@@ -1,13 +1,13 @@
 -- The loop tests from the top, so the first underrun it meets is the highest.
 use Prim.Native.Nat.{_≤_}
 use mathlib.Core.Path.{_≡_, refl}
-use Rattle.window.specs.Index.{highest}
+use Rattle.window_rules.specs.Index.{highest}
 use Rattle.window.proofs.Index.{highest-end, highest-stop, highest-on}
 use borrow.Author.Tests.{lt-ltb, le-ltb}
 use lib.Dec.{ltb}
 use lib.ListN.{getD}
 use Rattle.levels.specs.Levels.{depthAt}
-use Rattle.window.specs.Levels.{underrunOf}
+use Rattle.window_rules.specs.Levels.{underrunOf}
 use borrow.Author.Needs.{needs}
 use Rattle.window.proofs.every.highest_underrun.Statement.{statement}
 use Rattle.window.proofs.every.highest_underrun.Tie as tie

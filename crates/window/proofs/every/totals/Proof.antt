@@ -1,6 +1,6 @@
 -- It is the definition, index by index.
 use mathlib.Core.Path.{refl}
-use Rattle.window.specs.Levels.{totalsOf}
+use Rattle.window_rules.specs.Levels.{totalsOf}
 use borrow.Author.Needs.{needs}
 use Rattle.window.proofs.every.totals.Statement.{statement}
 use Rattle.window.proofs.every.totals.Tie as tie

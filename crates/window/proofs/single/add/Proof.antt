@@ -1,6 +1,6 @@
 -- There is room for both sums, and the peak is looked at after them.
 use Rattle.levels.specs.NumberLaws.{depth-room-says}
-use Rattle.window.specs.Depth.{addedOf}
+use Rattle.window_rules.specs.Depth.{addedOf}
 use borrow.Author.Needs.{needs}
 use Rattle.window.proofs.single.add.Statement.{statement}
 use Rattle.window.proofs.single.add.Tie as tie

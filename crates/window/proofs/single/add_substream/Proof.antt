@@ -1,6 +1,6 @@
 -- There is room for the sum, and the peak is looked at after it.
 use Rattle.levels.specs.NumberLaws.{room-says}
-use Rattle.window.specs.Depth.{addedSubstreamOf}
+use Rattle.window_rules.specs.Depth.{addedSubstreamOf}
 use borrow.Author.Needs.{needs}
 use Rattle.window.proofs.single.add_substream.Statement.{statement}
 use Rattle.window.proofs.single.add_substream.Tie as tie

@@ -1,6 +1,6 @@
 -- The test on the bytes is the definition's own.
 use borrow.Author.Tests.{le-leb, lt-leb}
-use Rattle.window.specs.Depth.{sampledSubstreamOf}
+use Rattle.window_rules.specs.Depth.{sampledSubstreamOf}
 use borrow.Author.Needs.{needs}
 use Rattle.window.proofs.single.sample_substream.Statement.{statement}
 use Rattle.window.proofs.single.sample_substream.Tie as tie

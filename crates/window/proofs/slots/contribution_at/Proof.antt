@@ -1,6 +1,6 @@
 -- Each read is the definition's own, and the slot number is below 128.
 use mathlib.Core.Path.{refl}
-use Rattle.window.specs.Rings.{contributionFrom}
+use Rattle.window_rules.specs.Rings.{contributionFrom}
 use borrow.Author.Needs.{needs}
 use Rattle.window.proofs.slots.contribution_at.Statement.{statement}
 use Rattle.window.proofs.slots.contribution_at.Tie as tie

@@ -1,7 +1,7 @@
 -- The whole drain is what is left to drain from here; each turn is one turn of the definition.
 use Prim.Native.Nat.{_<_}
 use mathlib.Core.Path.{_≡_, refl}
-use Rattle.window.specs.Window.{drainOf}
+use Rattle.window_rules.specs.Window.{drainOf}
 use Rattle.window.proofs.Turns.{drain-end, drain-stop, drain-under, drain-on, slot-read}
 use borrow.Author.Needs.{needs}
 use Rattle.window.proofs.slots.drain.Statement.{statement}

@@ -1,6 +1,6 @@
 -- It is the definition, field by field.
 use mathlib.Core.Path.{refl}
-use Rattle.window.specs.Rings.{freshFive}
+use Rattle.window_rules.specs.Rings.{freshFive}
 use Rattle.window.proofs.slots.fresh_five.Statement.{statement}
 use Rattle.window.proofs.slots.fresh_five.Tie as tie
 

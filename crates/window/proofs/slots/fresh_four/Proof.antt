@@ -1,6 +1,6 @@
 -- It is the definition, field by field.
 use mathlib.Core.Path.{refl}
-use Rattle.window.specs.Rings.{freshFour}
+use Rattle.window_rules.specs.Rings.{freshFour}
 use Rattle.window.proofs.slots.fresh_four.Statement.{statement}
 use Rattle.window.proofs.slots.fresh_four.Tie as tie
 

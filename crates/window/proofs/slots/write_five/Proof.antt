@@ -1,6 +1,6 @@
 -- Each store is the definition's own, and the slot number is below 128.
 use mathlib.Core.Path.{refl}
-use Rattle.window.specs.Rings.{writtenFive}
+use Rattle.window_rules.specs.Rings.{writtenFive}
 use borrow.Author.Needs.{needs}
 use Rattle.window.proofs.slots.write_five.Statement.{statement}
 use Rattle.window.proofs.slots.write_five.Tie as tie

@@ -1,6 +1,6 @@
 -- Each store is the definition's own, and the slot number is below 128.
 use mathlib.Core.Path.{refl}
-use Rattle.window.specs.Rings.{writtenFour}
+use Rattle.window_rules.specs.Rings.{writtenFour}
 use borrow.Author.Needs.{needs}
 use Rattle.window.proofs.slots.write_four.Statement.{statement}
 use Rattle.window.proofs.slots.write_four.Tie as tie

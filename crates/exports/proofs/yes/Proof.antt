@@ -1,7 +1,0 @@
--- `yes` is the test of zero. With this file a wrong test is refused here, and not first at a caller.
-use borrow.Author.Needs.{needs}
-use Rattle.exports.proofs.yes.Statement.{statement}
-use Rattle.exports.proofs.yes.Tie as tie
-
-pub yes-spec : {M : Type 1} → statement M
-yes-spec = tie.close (tie.spec (λ c. search needs))
