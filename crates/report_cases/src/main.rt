@@ -46,6 +46,38 @@ fn report_example(bytes: &[u8; 120]) {
     report(bytes, 120);
 }
 
+// The example at the front.
+fn example_first(bytes: &mut [u8; 60120]) {
+    let example = example_data::EXAMPLE_DATA;
+    let mut i: usize = 0;
+    while i < 120 {
+        bytes[i] = example[i];
+        i += 1;
+    }
+}
+
+// Behind the example its last unit again, to the end.
+fn repeat_last(bytes: &mut [u8; 60120]) {
+    let mut i: usize = 120;
+    while i < 60120 {
+        bytes[i] = bytes[i - 20];
+        i += 1;
+    }
+}
+
+// The example and three thousand units more in one piece: their lines are more than the room for lines, and none is lost.
+fn report_long() {
+    let mut bytes = [0; 60120];
+    example_first(&mut bytes);
+    repeat_last(&mut bytes);
+    say(b"# EXAMPLE_DATA and 3000 units more, whole\n");
+    report_whole(&bytes);
+}
+
+fn report_whole(bytes: &[u8; 60120]) {
+    report(bytes, 60120);
+}
+
 fn main() {
     let example = example_data::EXAMPLE_DATA;
     say(b"# EXAMPLE_DATA whole\n");
@@ -69,4 +101,5 @@ fn main() {
     report_damaged(b"# EXAMPLE_DATA with length 0: number 5\n", 17, 0);
     say(b"# no bytes\n");
     report(b"", 1);
+    report_long();
 }

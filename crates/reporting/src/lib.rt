@@ -1,6 +1,13 @@
 // The report of a stream, written: document 01, "Cases by hand". The lines of a piece are gathered in a lent slice (crate `lines`), so that there
 // are no more writes than pieces, but where a piece's lines fill the slice.
+//
+// What a write does is the C library's matter, and its contract says nothing of it. All else is determined: a call ends as the rules say, or with a
+// line that could not be written.
 ghost use Prim.Native.Nat.{_≤_, _<_};
+ghost use mathlib.Core.Path.{_≡_};
+ghost use Rattle.extract.specs.Calls.{bufferOf};
+ghost use Rattle.reporting.specs.Reports.{Written, wroteOf, pieceOf};
+ghost use Rattle.reporting.specs.declared.Reported.the-variants.{Went};
 use extract::Extractor;
 use extract::PushAnswer;
 use lines::Ended;
@@ -16,10 +23,12 @@ pub enum Reported {
 
 // Gathers and writes until the reader is dry. Nothing here says that it ever is, so the turns are counted down from a number that no run
 // uses up.
-fn write_lines(reader: Extractor, buf: &[u8], out: &mut [u8; 65536], fd: i32) -> Reported {
+fn write_lines(reader: Extractor, buf: &[u8], out: &mut [u8; 65536], fd: i32) -> Reported
+    ensures { λ r. ⌜ Written r (wroteOf 18446744073709551615 reader (now (buf .entry)) (now (out .entry))) ⌝ }
+{
     let mut reader = reader;
     let mut turns = u64::MAX;
-    while turns > 0 {
+    while 0 < turns {
         let gathered = gather(reader, buf, out);
         let ended = gathered.ended;
         reader = gathered.reader;
@@ -33,9 +42,10 @@ fn write_lines(reader: Extractor, buf: &[u8], out: &mut [u8; 65536], fd: i32) ->
             Ended::Refused => {
                 return Reported::Refused(1);
             }
-            Ended::Full => {}
+            Ended::Full => {
+                turns -= 1;
+            }
         }
-        turns -= 1;
     }
     Reported::Went(reader)
 }
@@ -47,7 +57,10 @@ pub fn report_piece(
     piece: &[u8],
     out: &mut [u8; 65536],
     fd: i32,
-) -> Reported {
+) -> Reported
+    ensures says { λ r. ⌜ Written r (pieceOf reader (now (buf .entry)) (now (piece .entry)) (now (out .entry))) ⌝ }
+    ensures holds { λ _. ⌜ now (buf .exit) ≡ bufferOf reader (now (buf .entry)) (now (piece .entry)) ⌝ }
+{
     let pushed = reader.push_bytes(buf, piece);
     let answer = pushed.answer;
     match answer {
@@ -63,7 +76,9 @@ pub fn report_piece(
 }
 
 // `END position errors`
-pub fn report_end(reader: Extractor, out: &mut [u8; 65536], fd: i32) -> Reported {
+pub fn report_end(reader: Extractor, out: &mut [u8; 65536], fd: i32) -> Reported
+    ensures { λ r. ⌜ Written r (Went reader) ⌝ }
+{
     let used = put_end(reader, out);
     if io::write_all(fd, buffer::part(out, 0, used)) {
         Reported::Went(reader)

@@ -144,12 +144,9 @@ pub extern "C" fn mv_window_push(
 ) -> MvPushed
     ensures { λ r. ⌜ r ≡ pushedFlat (pushedOf window (timeOf playhead) (timeOf removal) contribution) ⌝ }
 {
-    let pushed = window::push(
-        window,
-        SampleTime(playhead),
-        SampleTime(removal),
-        contribution,
-    );
+    let at = SampleTime(playhead);
+    let leaves = SampleTime(removal);
+    let pushed = window::push(window, at, leaves, contribution);
     let after = pushed.window;
     let report = pushed.report;
     let depths = report.depths;

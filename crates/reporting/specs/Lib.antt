@@ -1,0 +1,2 @@
+-- What becomes of a piece where its lines are written.
+pub mod Reports
