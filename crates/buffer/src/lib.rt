@@ -6,7 +6,7 @@ ghost use Rattle.machine.specs.Lent.{paste};
 ghost use Rattle.buffer.specs.Calls.{placed_of, held_of, part_of};
 
 // Where the unread bytes start once the piece stands behind them, unless there is no room for both.
-#[derive(Drop)]
+#[derive(Clone, Copy)]
 pub enum Placed {
     At(usize),
     NoRoom,

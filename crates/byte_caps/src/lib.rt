@@ -4,7 +4,7 @@ ghost use Rattle.std.specs.Prelude.{◌≡◌};
 ghost use Rattle.byte_caps.specs.Caps.{fbb_entry, fba_cap_of, fbb_cap_of};
 
 // A byte cap. An accumulator that is never checked has none, which is not a cap of 0.
-#[derive(Drop)]
+#[derive(Clone, Copy)]
 pub enum Cap {
     Bytes(u64),
     Unchecked,

@@ -9,7 +9,7 @@ ghost use Rattle.coverage.specs.Coverage.{capped, nothing_yet, begin_of, passed_
 use rules::{Unit, Waiting};
 
 // How far the stream was looked at, how many bytes before that are outside units, and where the first of them stands (0 where there is none).
-#[derive(Drop)]
+#[derive(Clone, Copy)]
 pub struct Coverage {
     pub reached: u64,
     pub outside: u64,

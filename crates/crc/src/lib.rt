@@ -4,7 +4,7 @@ ghost use Rattle.std.specs.Prelude.{◌≡◌, ◌<◌};
 ghost use Rattle.crc.specs.Crc.{bit_step, update_of, closed_of, check_of, byte_bits, run, major_sync};
 
 // The three settings given at opening: the polynomial, the start, and whether 16 zero bits follow the message.
-#[derive(Drop)]
+#[derive(Clone, Copy)]
 pub struct Algorithm {
     pub poly: u16,
     pub init: u16,

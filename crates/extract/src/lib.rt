@@ -18,7 +18,7 @@ use rules::{Losses, Stream, Unit, Waiting};
 
 // The reader's record: where the unread bytes stand in the lent buffer, how many bytes it accepted, how many pushes are unanswered, and the
 // stream.
-#[derive(Drop)]
+#[derive(Clone, Copy)]
 pub struct Extractor {
     pub start: usize,
     pub end: usize,
@@ -28,7 +28,7 @@ pub struct Extractor {
 }
 
 // The answers of a request.
-#[derive(Drop)]
+#[derive(Clone, Copy)]
 pub enum Answer {
     Unit { unit: Unit, start: usize },
     InvalidAccessUnitLength { actual: u16, minimum: u16 },
@@ -38,21 +38,21 @@ pub enum Answer {
     Record,
 }
 
-#[derive(Drop)]
+#[derive(Clone, Copy)]
 pub struct Asked {
     pub extractor: Extractor,
     pub answer: Answer,
 }
 
 // A reader is opened, or the buffer doesn't fit.
-#[derive(Drop)]
+#[derive(Clone, Copy)]
 pub enum Opened {
     Open(Extractor),
     Refused,
 }
 
 // A piece is accepted, or refused: the record doesn't fit, too many pushes are unanswered, the total would pass its limit, no room.
-#[derive(Drop)]
+#[derive(Clone, Copy)]
 pub enum PushAnswer {
     Accepted,
     Record,
@@ -61,7 +61,7 @@ pub enum PushAnswer {
     Room,
 }
 
-#[derive(Drop)]
+#[derive(Clone, Copy)]
 pub struct Pushed {
     pub extractor: Extractor,
     pub answer: PushAnswer,

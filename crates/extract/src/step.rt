@@ -12,7 +12,7 @@ use kinds::BytePosition;
 use rules::{Loss, Losses, Stream, Unit, Verdict, Waiting};
 
 // How a step ends: dry, quiet, or with something spoken.
-#[derive(Drop)]
+#[derive(Clone, Copy)]
 pub enum Outcome {
     Dry,
     Quiet,
@@ -21,7 +21,7 @@ pub enum Outcome {
     Failed,
 }
 
-#[derive(Drop)]
+#[derive(Clone, Copy)]
 pub struct Stepped {
     pub stream: Stream,
     pub eaten: usize,

@@ -1,5 +1,5 @@
 // The assertions of a test, counted: which was the first that differed.
-#[derive(Drop)]
+#[derive(Clone, Copy)]
 pub(crate) struct Check {
     pub made: u64,
     pub first: u64,

@@ -9,7 +9,7 @@ pub(crate) type Data = [u8; 512];
 
 pub(crate) type Buffer = [u8; 131072];
 
-#[derive(Drop)]
+#[derive(Clone, Copy)]
 pub(crate) struct Seen {
     pub reader: Extractor,
     pub units: u64,
@@ -29,7 +29,7 @@ pub(crate) fn buffer() -> Buffer
 }
 
 // What follows an answer: one request more, or none.
-#[derive(Drop)]
+#[derive(Clone, Copy)]
 struct Noted {
     seen: Seen,
     dry: bool,

@@ -11,21 +11,21 @@ use rules::{Verdict, Waiting};
 use timestamp::{Parsed, Timestamp};
 
 // The place of a candidate.
-#[derive(Drop)]
+#[derive(Clone, Copy)]
 pub enum Found {
     At(usize),
     Nowhere,
 }
 
 // A sync's length, unless a byte that says it is missing.
-#[derive(Drop)]
+#[derive(Clone, Copy)]
 pub(crate) enum Length {
     Known(usize),
     Missing,
 }
 
 // A decision and how many bytes it eats, unless a byte is missing for it.
-#[derive(Drop)]
+#[derive(Clone, Copy)]
 pub enum Judged {
     Given { eaten: usize, verdict: Verdict },
     Missing,

@@ -9,7 +9,7 @@ use crate::search::{Judged, Length, sync_length, unit_length};
 use rules::{Loss, Verdict};
 
 // Where a directory ends, and the parity up to there, unless a byte is missing for it.
-#[derive(Drop)]
+#[derive(Clone, Copy)]
 enum Walk {
     Ends { place: usize, parity: u8 },
     Missing,

@@ -4,11 +4,11 @@ ghost use Rattle.std.specs.Prelude.{◌≡◌};
 ghost use Rattle.kinds.specs.Kinds.{passed_of};
 
 // A place in the stream, counted in bytes from its beginning.
-#[derive(Drop)]
+#[derive(Clone, Copy)]
 pub struct BytePosition(pub u64);
 
 // A moment of playback, counted in samples.
-#[derive(Drop)]
+#[derive(Clone, Copy)]
 pub struct SampleTime(pub u64);
 
 impl SampleTime {

@@ -14,7 +14,7 @@ use reads::{held, peak_records_of, peak_totals, substream_peaks_of};
 // What one unit adds, in bytes. `total` is what an accumulator is capped on, `stream` the part of it that is substream payload, and
 // `substream` each substream's own payload.
 #[repr(C)]
-#[derive(Drop)]
+#[derive(Clone, Copy)]
 pub struct Contribution {
     pub total: [u32; 5],
     pub stream: [u32; 5],
@@ -23,7 +23,7 @@ pub struct Contribution {
 
 // Deepest one accumulator has been, and what it held at that moment.
 #[repr(C)]
-#[derive(Drop)]
+#[derive(Clone, Copy)]
 pub struct Peak {
     pub total: u64,
     pub stream: u64,
@@ -32,7 +32,7 @@ pub struct Peak {
 
 // One accumulator: the bytes it holds now, the stream part of them, and its peak.
 #[repr(C)]
-#[derive(Drop)]
+#[derive(Clone, Copy)]
 pub struct Depth {
     pub total: u64,
     pub stream: u64,
@@ -41,7 +41,7 @@ pub struct Depth {
 
 // One substream: the bytes it holds now, and the most it has held.
 #[repr(C)]
-#[derive(Drop)]
+#[derive(Clone, Copy)]
 pub struct SubstreamDepth {
     pub bytes: u64,
     pub peak: u64,
@@ -49,7 +49,7 @@ pub struct SubstreamDepth {
 
 // All of a window but its rings.
 #[repr(C)]
-#[derive(Drop)]
+#[derive(Clone, Copy)]
 pub struct Levels {
     pub read: usize,
     pub write: usize,
@@ -58,7 +58,7 @@ pub struct Levels {
 }
 
 // The answer of every call that takes a window.
-#[derive(Drop)]
+#[derive(Clone, Copy)]
 pub enum Answer {
     Accepted,
     RecordDoesNotFit,
@@ -67,28 +67,28 @@ pub enum Answer {
 }
 
 // The units held.
-#[derive(Drop)]
+#[derive(Clone, Copy)]
 pub struct Buffered {
     pub units: usize,
     pub answer: Answer,
 }
 
 // Deepest each accumulator has been.
-#[derive(Drop)]
+#[derive(Clone, Copy)]
 pub struct Peaks {
     pub peaks: [u64; 5],
     pub answer: Answer,
 }
 
 // Deepest each accumulator has been, with the stream and overhead parts it held then.
-#[derive(Drop)]
+#[derive(Clone, Copy)]
 pub struct PeakRecords {
     pub peaks: [Peak; 5],
     pub answer: Answer,
 }
 
 // Deepest each substream's own bytes have been.
-#[derive(Drop)]
+#[derive(Clone, Copy)]
 pub struct SubstreamPeaks {
     pub peaks: [u64; 4],
     pub answer: Answer,

@@ -11,7 +11,7 @@ use extract::{Answer, Extractor};
 use rules::{Unit, Waiting};
 
 // What an answer is to the lines.
-#[derive(Drop)]
+#[derive(Clone, Copy)]
 enum Heard {
     Line,
     Dry,
@@ -19,7 +19,7 @@ enum Heard {
 }
 
 // Why the gathering of lines ended: the reader is dry, the room is full, or the record doesn't fit.
-#[derive(Drop)]
+#[derive(Clone, Copy)]
 pub enum Ended {
     Dry,
     Full,
@@ -27,7 +27,7 @@ pub enum Ended {
 }
 
 // The reader after the requests, how many bytes of the lent slice are lines, and why there are no more.
-#[derive(Drop)]
+#[derive(Clone, Copy)]
 pub struct Gathered {
     pub reader: Extractor,
     pub used: usize,

@@ -8,25 +8,25 @@ use levels::{Depth, Levels, SubstreamDepth};
 use rules::{Losses, Stream};
 use timing::HiresOutputTimingState;
 
-#[derive(Drop)]
+#[derive(Clone, Copy)]
 pub(crate) struct ForgedReader {
     pub good: bool,
     pub reader: Reader,
 }
 
-#[derive(Drop)]
+#[derive(Clone, Copy)]
 pub(crate) struct ForgedTiming {
     pub good: bool,
     pub timing: HiresOutputTimingState,
 }
 
-#[derive(Drop)]
+#[derive(Clone, Copy)]
 pub(crate) struct ForgedLevels {
     pub good: bool,
     pub levels: Levels,
 }
 
-#[derive(Drop)]
+#[derive(Clone, Copy)]
 struct ForgedStream {
     good: bool,
     stream: Stream,

@@ -61,7 +61,7 @@ pub(crate) const CHECK: usize = 25;
 
 pub(crate) const CAP: usize = 26;
 
-#[derive(Drop)]
+#[derive(Clone, Copy)]
 pub(crate) struct Part {
     pub form: usize,
     pub value: [u64; 12],
@@ -69,7 +69,7 @@ pub(crate) struct Part {
 
 // Where a form's text has come to: the place, the next number's place among the values, the text chosen and the one that is passed. Outside a
 // choice the last two are 0.
-#[derive(Drop)]
+#[derive(Clone, Copy)]
 struct Pen {
     at: usize,
     next: usize,

@@ -34,7 +34,7 @@ use timing::HiresOutputTimingState;
 use window_rules::Window;
 
 // The records that are kept from call to call.
-#[derive(Drop)]
+#[derive(Clone, Copy)]
 struct Records {
     reader: Reader,
     timing: HiresOutputTimingState,
@@ -42,14 +42,14 @@ struct Records {
 }
 
 // What a line leaves, and what comes of it.
-#[derive(Drop)]
+#[derive(Clone, Copy)]
 struct Done {
     records: Records,
     outcome: Outcome,
 }
 
 // The records, how many lines were no call, and the place of the gathered output.
-#[derive(Drop)]
+#[derive(Clone, Copy)]
 struct Session {
     records: Records,
     refused: u64,

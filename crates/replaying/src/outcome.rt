@@ -4,7 +4,7 @@ use crate::gather::{put_line, with_room};
 use libc::STDERR_FILENO;
 
 // A line is a call, written as it stands, passed over, or no call.
-#[derive(Drop)]
+#[derive(Clone, Copy)]
 pub(crate) enum Kind {
     Call,
     Comment,
@@ -12,7 +12,7 @@ pub(crate) enum Kind {
     NoCall,
 }
 
-#[derive(Drop)]
+#[derive(Clone, Copy)]
 pub(crate) struct Outcome {
     pub kind: Kind,
     pub parts: [Part; 9],

@@ -9,14 +9,14 @@ use crc::Algorithm;
 use extract::{Extractor, Opened};
 
 // A reader, and how much of the space it is lent.
-#[derive(Drop)]
+#[derive(Clone, Copy)]
 pub(crate) struct Reader {
     pub room: usize,
     pub extractor: Extractor,
 }
 
 // What a call leaves: the reader, and what comes of it.
-#[derive(Drop)]
+#[derive(Clone, Copy)]
 pub(crate) struct Read {
     pub reader: Reader,
     pub outcome: Outcome,

@@ -5,7 +5,7 @@ use libc::{STDERR_FILENO, STDIN_FILENO};
 
 // A line of what was read, and where the reading stands: `used` and `have` are the ends of what was handed out and of what was read. A line is
 // empty where more had to be read first. Closed: nothing more arrives; ended: no line is left.
-#[derive(Drop)]
+#[derive(Clone, Copy)]
 pub(crate) struct Place {
     pub from: usize,
     pub to: usize,

@@ -12,7 +12,7 @@ use timing::{HiresOutputTimingState, HiresTimingFault};
 use window_rules::Underrun;
 
 // A number that says which of some texts is meant, and a number in that text.
-#[derive(Drop)]
+#[derive(Clone, Copy)]
 struct Choice {
     text: u64,
     n: u64,
@@ -95,7 +95,7 @@ fn reader_part(r: Extractor) -> Part {
 }
 
 // What a call of the reader answers, before its record: a unit has a timestamp and the sum of its bytes.
-#[derive(Drop)]
+#[derive(Clone, Copy)]
 pub(crate) struct Head {
     pub answer: Part,
     pub stamp: Part,

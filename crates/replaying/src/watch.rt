@@ -10,13 +10,13 @@ use levels::Contribution;
 use timing::{HiresOutputTimingState, TimingContext, Updated};
 use window_rules::Window;
 
-#[derive(Drop)]
+#[derive(Clone, Copy)]
 pub(crate) struct Timed {
     pub timing: HiresOutputTimingState,
     pub outcome: Outcome,
 }
 
-#[derive(Drop)]
+#[derive(Clone, Copy)]
 pub(crate) struct Windowed {
     pub window: Window,
     pub outcome: Outcome,

@@ -2,14 +2,14 @@
 use text::Number;
 
 // Which of a list of names the next word is, and the place behind it.
-#[derive(Drop)]
+#[derive(Clone, Copy)]
 pub(crate) struct Name {
     pub number: usize,
     pub to: usize,
 }
 
 // What stands behind a call's name: up to sixteen numbers, how many, and the place behind them. Good where no other word follows.
-#[derive(Drop)]
+#[derive(Clone, Copy)]
 pub(crate) struct Numbers {
     pub good: bool,
     pub count: usize,

@@ -13,7 +13,7 @@ use text::Number;
 const MOST: u64 = 1040000;
 
 // What became of a piece.
-#[derive(Drop)]
+#[derive(Clone, Copy)]
 enum Taken {
     On(Extractor),
     Over(Extractor),

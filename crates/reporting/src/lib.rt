@@ -12,7 +12,7 @@ use extract::{Extractor, PushAnswer};
 use lines::{Ended, gather, put_end};
 
 // What became of a piece, or of a whole stream: the reader goes on, a call was refused by its number, or a line could not be written.
-#[derive(Drop)]
+#[derive(Clone, Copy)]
 pub enum Reported {
     Went(Extractor),
     Refused(u8),

@@ -5,20 +5,20 @@ use kinds::BytePosition;
 use timestamp::Timestamp;
 
 // The timestamp that waits for the next unit, if one does.
-#[derive(Drop)]
+#[derive(Clone, Copy)]
 pub enum Waiting {
     Nothing,
     Stamp(Timestamp),
 }
 
 // The losses so far; every one raises the count of its kind.
-#[derive(Drop)]
+#[derive(Clone, Copy)]
 pub struct Losses {
     pub errors: u64,
 }
 
 // The kinds of loss.
-#[derive(Drop)]
+#[derive(Clone, Copy)]
 pub enum Loss {
     Length,
     Check,
@@ -27,7 +27,7 @@ pub enum Loss {
 }
 
 // What the rules know of the stream behind the unread bytes.
-#[derive(Drop)]
+#[derive(Clone, Copy)]
 pub struct Stream {
     pub consumed: BytePosition,
     pub frames: u64,
@@ -41,7 +41,7 @@ pub struct Stream {
 
 // A unit: its number, its place in the stream, its length, whether it begins with a major sync, the substream count that it was locked
 // under, and the timestamp that waited for it.
-#[derive(Drop)]
+#[derive(Clone, Copy)]
 pub struct Unit {
     pub index: u64,
     pub position: BytePosition,
@@ -52,7 +52,7 @@ pub struct Unit {
 }
 
 // What is decided on a candidate or a unit.
-#[derive(Drop)]
+#[derive(Clone, Copy)]
 pub enum Verdict {
     Lock(u8),
     Lost(Loss),

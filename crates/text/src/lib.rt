@@ -8,20 +8,20 @@ ghost use Rattle.text.specs.Put.{put_of, put_end, decimal_of};
 ghost use Rattle.text.specs.Text.{Within, line_end_of, word_from, word_to, next_word_of};
 
 // A stretch of a slice: from the first place to the one past the last.
-#[derive(Drop)]
+#[derive(Clone, Copy)]
 pub struct Word {
     pub from: usize,
     pub to: usize,
 }
 
 // Bytes that were written into a lent slice.
-#[derive(Drop)]
+#[derive(Clone, Copy)]
 pub struct Hex {
     pub good: bool,
     pub count: usize,
 }
 
-#[derive(Drop)]
+#[derive(Clone, Copy)]
 pub enum Number {
     Is(u64),
     Bad,

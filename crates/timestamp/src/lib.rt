@@ -5,7 +5,7 @@ ghost use Rattle.laws.specs.Words.{word as word_of, word_at};
 ghost use Rattle.timestamp.specs.Timestamp.{bcd_of, rate_of, stamp_of, fields_of, parse_of, number_of};
 
 // The frame rate by its code; a code that names no rate is kept as it came.
-#[derive(Drop)]
+#[derive(Clone, Copy)]
 pub enum Framerate {
     R23_976,
     R24,
@@ -18,7 +18,7 @@ pub enum Framerate {
     Invalid(u8),
 }
 
-#[derive(Drop)]
+#[derive(Clone, Copy)]
 pub struct Timestamp {
     pub hours: u16,
     pub minutes: u16,
@@ -32,21 +32,21 @@ pub struct Timestamp {
 }
 
 // Why sixteen bytes are no timestamp.
-#[derive(Drop)]
+#[derive(Clone, Copy)]
 pub enum TimestampError {
     InsufficientData,
     InvalidSyncBytes,
     InvalidBcdDigit,
 }
 
-#[derive(Drop)]
+#[derive(Clone, Copy)]
 pub enum Parsed {
     Stamp(Timestamp),
     Refused(TimestampError),
 }
 
 // What four BCD digits say.
-#[derive(Drop)]
+#[derive(Clone, Copy)]
 pub enum Digits {
     Number(u16),
     Invalid,

@@ -11,7 +11,7 @@ ghost use Rattle.timing.specs.Timing.{moved_to, faulted_by, read_on, ended_at, b
 ghost use Rattle.timing.specs.Timing.{start_of, elapsed_of, continues_of};
 
 // What the parser knows of a unit: its number, the samples in each unit and its output timing.
-#[derive(Drop)]
+#[derive(Clone, Copy)]
 pub struct TimingContext {
     pub unit: u64,
     pub samples: u64,
@@ -19,7 +19,7 @@ pub struct TimingContext {
 }
 
 // A field: the timing it spells, the unit it began in and that unit's output timing.
-#[derive(Drop)]
+#[derive(Clone, Copy)]
 pub struct Field {
     pub timing: u64,
     pub unit: u64,
@@ -27,7 +27,7 @@ pub struct Field {
 }
 
 // What the last step found wrong. A fault names the unit that the field began in, not the one where it surfaced.
-#[derive(Drop)]
+#[derive(Clone, Copy)]
 pub enum HiresTimingFault {
     NoFault,
     ExtraZeroAfterEnd(u64),
@@ -43,7 +43,7 @@ pub enum HiresTimingFault {
 
 // The record. `state` is the Rust's state_index, `bits` its serialisation_counter, `field` and `previous` its timing and prev_timing with their
 // units. The three small numbers can hold what does not fit, so that number 1 can be said of them.
-#[derive(Drop)]
+#[derive(Clone, Copy)]
 pub struct HiresOutputTimingState {
     pub state: u8,
     pub counter: u8,
@@ -53,7 +53,7 @@ pub struct HiresOutputTimingState {
     pub fault: HiresTimingFault,
 }
 
-#[derive(Drop)]
+#[derive(Clone, Copy)]
 pub enum Answer {
     Nothing,
     Start(u32),
@@ -61,7 +61,7 @@ pub enum Answer {
     Record,
 }
 
-#[derive(Drop)]
+#[derive(Clone, Copy)]
 pub struct Updated {
     pub next: HiresOutputTimingState,
     pub answer: Answer,

@@ -2,7 +2,7 @@
 use crate::show;
 use timing::{HiresOutputTimingState, TimingContext};
 
-#[derive(Drop)]
+#[derive(Clone, Copy)]
 pub(crate) struct Desk {
     pub timing: HiresOutputTimingState,
     pub about: TimingContext,

@@ -14,7 +14,7 @@ use timing::{Answer, Field, HiresOutputTimingState, HiresTimingFault, TimingCont
 
 // What a step answers: number 1 or 0, and the stream's start if `present` says that there is one; else zeros.
 #[repr(C)]
-#[derive(Drop)]
+#[derive(Clone, Copy)]
 pub struct MvTimingAnswer {
     pub number: u32,
     pub start: u32,

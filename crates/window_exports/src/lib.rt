@@ -17,7 +17,7 @@ use window_rules::{Underrun, Window};
 
 // The accumulator that an underrun names, if `present` says that there is one; zeros elsewhere.
 #[repr(C)]
-#[derive(Drop)]
+#[derive(Clone, Copy)]
 pub struct MvUnderrun {
     pub accumulator: usize,
     pub present: u8,
@@ -25,7 +25,7 @@ pub struct MvUnderrun {
 
 // What a push answers: the window afterwards, the five depths with the new unit included, the underrun, and document 01's number.
 #[repr(C)]
-#[derive(Drop)]
+#[derive(Clone, Copy)]
 pub struct MvPushed {
     pub window: Window,
     pub depths: [u64; 5],
@@ -35,7 +35,7 @@ pub struct MvPushed {
 
 // What a restart answers.
 #[repr(C)]
-#[derive(Drop)]
+#[derive(Clone, Copy)]
 pub struct MvRestarted {
     pub window: Window,
     pub number: u32,
@@ -43,7 +43,7 @@ pub struct MvRestarted {
 
 // The units held.
 #[repr(C)]
-#[derive(Drop)]
+#[derive(Clone, Copy)]
 pub struct MvBuffered {
     pub units: usize,
     pub number: u32,
@@ -51,7 +51,7 @@ pub struct MvBuffered {
 
 // Deepest each accumulator has been.
 #[repr(C)]
-#[derive(Drop)]
+#[derive(Clone, Copy)]
 pub struct MvPeaks {
     pub peaks: [u64; 5],
     pub number: u32,
@@ -59,7 +59,7 @@ pub struct MvPeaks {
 
 // Deepest each accumulator has been, with the stream and overhead parts it held then.
 #[repr(C)]
-#[derive(Drop)]
+#[derive(Clone, Copy)]
 pub struct MvPeakRecords {
     pub peaks: [Peak; 5],
     pub number: u32,
@@ -67,7 +67,7 @@ pub struct MvPeakRecords {
 
 // Deepest each substream's own bytes have been.
 #[repr(C)]
-#[derive(Drop)]
+#[derive(Clone, Copy)]
 pub struct MvSubstreamPeaks {
     pub peaks: [u64; 4],
     pub number: u32,
@@ -75,7 +75,7 @@ pub struct MvSubstreamPeaks {
 
 // A byte cap, if the accumulator is checked against one; `known` says whether there is such an accumulator.
 #[repr(C)]
-#[derive(Drop)]
+#[derive(Clone, Copy)]
 pub struct MvCap {
     pub bytes: u64,
     pub checked: u8,

@@ -7,7 +7,7 @@ use levels::{Answer, Levels};
 
 // A ring for each accumulator, of its bytes or of their stream part.
 #[repr(C)]
-#[derive(Drop)]
+#[derive(Clone, Copy)]
 pub struct FiveRings {
     pub ring0: [u32; 128],
     pub ring1: [u32; 128],
@@ -18,7 +18,7 @@ pub struct FiveRings {
 
 // A ring for each substream, of its bytes.
 #[repr(C)]
-#[derive(Drop)]
+#[derive(Clone, Copy)]
 pub struct FourRings {
     pub ring0: [u32; 128],
     pub ring1: [u32; 128],
@@ -28,7 +28,7 @@ pub struct FourRings {
 
 // The units in flight: slot i of every ring belongs to the same unit.
 #[repr(C)]
-#[derive(Drop)]
+#[derive(Clone, Copy)]
 pub struct Rings {
     pub removal: [u64; 128],
     pub total: FiveRings,
@@ -37,27 +37,27 @@ pub struct Rings {
 }
 
 #[repr(C)]
-#[derive(Drop)]
+#[derive(Clone, Copy)]
 pub struct Window {
     pub rings: Rings,
     pub levels: Levels,
 }
 
 // The accumulator that held fewer bytes than the unit leaving it, if any.
-#[derive(Drop)]
+#[derive(Clone, Copy)]
 pub enum Underrun {
     Nothing,
     At(usize),
 }
 
 // What a step did to the window: each accumulator's depth with the new unit included.
-#[derive(Drop)]
+#[derive(Clone, Copy)]
 pub struct Report {
     pub depths: [u64; 5],
     pub underrun: Underrun,
 }
 
-#[derive(Drop)]
+#[derive(Clone, Copy)]
 pub struct Pushed {
     pub window: Window,
     pub report: Report,
@@ -65,14 +65,14 @@ pub struct Pushed {
 }
 
 // What a restart gives back.
-#[derive(Drop)]
+#[derive(Clone, Copy)]
 pub struct Restarted {
     pub window: Window,
     pub answer: Answer,
 }
 
 // The levels after a drain, and whether the last record drained left an accumulator short.
-#[derive(Drop)]
+#[derive(Clone, Copy)]
 pub struct Drained {
     pub levels: Levels,
     pub underrun: Underrun,
