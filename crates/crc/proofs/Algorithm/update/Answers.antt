@@ -1,6 +1,5 @@
 -- `Algorithm::update` is the run over the message's bits. The loop's invariant: the run over the whole from the register at entry is the run
 -- over what is left from the register now.
-use borrow.Author.Rules.{rules}
 use Prim.Native.Nat.{ℕ, suc, ◌+◌, ◌-◌, ◌≤◌, ◌<◌}
 use native.Mathlib.Numerals.{add-one}
 use native.Mathlib.Omega.{arith}
@@ -10,8 +9,8 @@ use lib.ListN.{length, get_or, drop}
 use lib.Seq.{drop-cons, drop-length}
 use Rattle.crc.specs.Crc.{run, byte_bits, bits_of}
 use Rattle.crc.specs.Laws.{bits_cons, bits_none, run_append}
-use Rattle.crc.proofs.Algorithm.update.Statement.{statement}
-use Rattle.crc.proofs.Algorithm.update.Tie as tie
+use Rattle.std.proofs.Common.{rules}
+use Rattle.crc.proofs.Algorithm.update.Goals as goal
 
 -- the run over what is left from place i on
 abbrev rest : ℕ → ℕ → List ℕ → ℕ → ℕ
@@ -30,20 +29,11 @@ module _ (poly first crc : ℕ) (s : List ℕ) (i : ℕ) (same : run poly first 
   unfolding run
   at_end u v = let k : i ≡ length s = omega arith in sym (same ∙ rw (k, drop-length, bits_none))
 
-abbrev invariant-loop : tie.invariant-loop
-invariant-loop crc bytes poly crc₀ i₀ crc' i = (i ≤ length bytes) × (run poly crc (bits_of bytes) ≡ rest poly crc' bytes i)
+pub loop-i-init : goal.loop-i-init
+loop-i-init c = (search rules, refl)
 
-abbrev decreases-loop : tie.decreases-loop
-decreases-loop crc bytes poly crc₀ i₀ crc' i = length bytes - i
+pub loop-i-preserved : goal.loop-i-preserved
+loop-i-preserved c = (search rules, search (rules, one_more))
 
-pub update_spec : {M : Type 1} → statement M
-update_spec =
-    tie.close
-    (tie.spec invariant-loop decreases-loop
-    (λ c. (search rules, refl))
-    (λ c. search rules)
-    (λ c κs. search rules)
-    (λ c. search rules)
-    (λ c. search rules)
-    (λ c. (search rules, search (rules, one_more)))
-    (λ c. search (rules, at_end)))
+pub returns : goal.returns
+returns c = search (rules, at_end)
