@@ -4,14 +4,11 @@ use Rattle.levels.specs.NumberLaws.{read_fits, write_fits}
 use Rattle.std.proofs.Common.{rules}
 use Rattle.levels.proofs.Levels.buffered.Goals as goal
 
-pub fits-requires : goal.fits-requires
-fits-requires c κs = search rules
-
 pub returns-else-fits : goal.returns-else-fits
 returns-else-fits c = search (rules, buffered_refused, buffered_done)
 
 pub held-units-requires : goal.held-units-requires
-held-units-requires c κs = (search (rules, read_fits), search (rules, write_fits))
+held-units-requires c = (search (rules, read_fits), search (rules, write_fits))
 
 pub returns : goal.returns
 returns c = search (rules, buffered_refused, buffered_done)

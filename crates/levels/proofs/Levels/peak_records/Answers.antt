@@ -3,14 +3,8 @@ use Rattle.levels.proofs.Questions.{peak_records_refused, peak_records_done}
 use Rattle.std.proofs.Common.{rules}
 use Rattle.levels.proofs.Levels.peak_records.Goals as goal
 
-pub fits-requires : goal.fits-requires
-fits-requires c κs = search rules
-
 pub returns-else-fits : goal.returns-else-fits
 returns-else-fits c = search (rules, peak_records_refused, peak_records_done)
-
-pub peak_records_of-peaks-requires : goal.peak_records_of-peaks-requires
-peak_records_of-peaks-requires c κs = search rules
 
 pub returns : goal.returns
 returns c = search (rules, peak_records_refused, peak_records_done)

@@ -1,11 +1,7 @@
 -- The loop tests from the top, and the whole is what is left to test.
-use Prim.Native.Nat.{◌≤◌}
-use mathlib.Core.Path.{◌≡◌, refl}
-use Rattle.levels.specs.Index.{every}
+use mathlib.Core.Path.{refl}
 use Rattle.levels.specs.IndexLaws.{every_end, every_stop, every_on}
 use borrow.Author.Tests.{le-leb, lt-leb}
-use lib.Dec.{leb}
-use lib.ListN.{length, get_or}
 use Rattle.levels.specs.Numbers.{all_small}
 use Rattle.std.proofs.Common.{rules}
 use Rattle.levels.proofs.numbers.all_small.Goals as goal
@@ -14,20 +10,8 @@ pub loop-k-init : goal.loop-k-init
 unfolding all_small
 loop-k-init c = (search rules, refl)
 
-pub overflow_sub-k : goal.overflow_sub-k
-overflow_sub-k c = search rules
-
-pub offset_bounds-bytes-k : goal.offset_bounds-bytes-k
-offset_bounds-bytes-k c = search rules
-
-pub bounds-bytes-k : goal.bounds-bytes-k
-bounds-bytes-k c = search rules
-
 pub returns-then-bytes-k-gt16384 : goal.returns-then-bytes-k-gt16384
 returns-then-bytes-k-gt16384 c = search (rules, every_stop, le-leb, lt-leb)
-
-pub loop-k-smaller : goal.loop-k-smaller
-loop-k-smaller c = search rules
 
 pub loop-k-preserved : goal.loop-k-preserved
 loop-k-preserved c = (search rules, search (rules, every_on, le-leb, lt-leb))

@@ -1,9 +1,7 @@
 -- The loop tests from the top, and the whole is what is left to test.
 use Prim.Native.Nat.{◌≤◌}
-use mathlib.Core.Path.{◌≡◌, refl}
+use mathlib.Core.Path.{◌≡◌}
 use Rattle.levels.specs.Index.{every}
-use Rattle.levels.specs.IndexLaws.{every_end, every_stop, every_on}
-use borrow.Author.Tests.{le-leb, lt-leb}
 use lib.Dec.{leb}
 use lib.ListN.{length, get_or}
 use Rattle.levels.specs.Numbers.{all_small}

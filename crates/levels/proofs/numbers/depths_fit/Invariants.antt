@@ -1,8 +1,7 @@
 -- The loop tests from the top, and the whole is what is left to test.
 use Prim.Native.Nat.{◌≤◌}
-use mathlib.Core.Path.{◌≡◌, refl}
+use mathlib.Core.Path.{◌≡◌}
 use Rattle.levels.specs.Index.{every}
-use Rattle.levels.specs.IndexLaws.{every_end, every_stop, every_on}
 use Rattle.levels.specs.Numbers.{depth_fits, depths_fit}
 use Rattle.levels.specs.Levels.{depth_at}
 use Rattle.levels.proofs.numbers.depths_fit.Given as goal

@@ -9,12 +9,6 @@ returns-then-levels-gt127 c = search (rules, fits_read, fits_write, fits_off, fi
 pub returns-then-levels-gt127-2 : goal.returns-then-levels-gt127-2
 returns-then-levels-gt127-2 c = search (rules, fits_read, fits_write, fits_off, fits_on)
 
-pub depths_fit-requires : goal.depths_fit-requires
-depths_fit-requires c κs = search rules
-
-pub substreams_fit-requires : goal.substreams_fit-requires
-substreams_fit-requires c κs = search rules
-
 pub returns-then-depths_fit : goal.returns-then-depths_fit
 returns-then-depths_fit c = search (rules, fits_read, fits_write, fits_off, fits_on)
 

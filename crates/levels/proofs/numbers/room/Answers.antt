@@ -3,12 +3,6 @@ use Rattle.levels.proofs.Conditions.{room_on, room_off}
 use Rattle.std.proofs.Common.{rules}
 use Rattle.levels.proofs.numbers.room.Goals as goal
 
-pub depths_room-requires : goal.depths_room-requires
-depths_room-requires c κs = search rules
-
-pub substreams_room-requires : goal.substreams_room-requires
-substreams_room-requires c κs = search rules
-
 pub returns-then-depths_room : goal.returns-then-depths_room
 returns-then-depths_room c = search (rules, room_on, room_off)
 

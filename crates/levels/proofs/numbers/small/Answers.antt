@@ -3,15 +3,6 @@ use Rattle.levels.proofs.Conditions.{small_total, small_stream, small_substream}
 use Rattle.std.proofs.Common.{rules}
 use Rattle.levels.proofs.numbers.small.Goals as goal
 
-pub all_small-requires : goal.all_small-requires
-all_small-requires c κs = search rules
-
-pub all_small-requires-then-all_small : goal.all_small-requires-then-all_small
-all_small-requires-then-all_small c κs = search rules
-
-pub all_small-requires-then-all_small-2 : goal.all_small-requires-then-all_small-2
-all_small-requires-then-all_small-2 c κs = search rules
-
 pub returns-then-all_small-2 : goal.returns-then-all_small-2
 returns-then-all_small-2 c = search (rules, small_total, small_stream, small_substream)
 

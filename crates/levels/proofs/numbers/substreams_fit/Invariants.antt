@@ -1,9 +1,7 @@
 -- The loop tests from the top, and the whole is what is left to test.
 use Prim.Native.Nat.{◌≤◌}
-use mathlib.Core.Path.{◌≡◌, refl}
+use mathlib.Core.Path.{◌≡◌}
 use Rattle.levels.specs.Index.{every}
-use Rattle.levels.specs.IndexLaws.{every_end, every_stop, every_on}
-use borrow.Author.Tests.{le-leb, lt-leb}
 use lib.Dec.{leb}
 use Rattle.levels.specs.Numbers.{substreams_fit}
 use Rattle.levels.specs.Levels.{substream_at}

@@ -1,8 +1,7 @@
 -- The loop tests from the top, and the whole is what is left to test.
 use Prim.Native.Nat.{◌≤◌}
-use mathlib.Core.Path.{◌≡◌, refl}
+use mathlib.Core.Path.{◌≡◌}
 use Rattle.levels.specs.Index.{every}
-use Rattle.levels.specs.IndexLaws.{every_end, every_stop, every_on}
 use lib.ListN.{get_or}
 use Rattle.levels.specs.Numbers.{room_at, substreams_room}
 use Rattle.levels.specs.Levels.{substream_at}
