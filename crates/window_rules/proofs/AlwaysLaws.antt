@@ -11,6 +11,7 @@ use Rattle.window_rules.specs.Levels.{each_depth, each_substream, drained_of, ad
 use Rattle.levels.specs.Numbers.{room_at, depth_room, room_of, depth_fits, depths_fit, substreams_fit, fits_of, small_of, number_of}
 use Rattle.window_rules.specs.Window.{answer_of, step_rings, stepped_of, refused_of, pushed_of, restarted_window_of, restarted_of, fresh_of, drain_of}
 use Rattle.window_rules.specs.History.{Call, step, restart, called, after}
+use Rattle.window_rules.specs.Always.{Covered, Moments}
 use Rattle.levels.specs.declared.Contribution.{Contribution}
 use Rattle.levels.specs.declared.Peak.{Peak}
 use Rattle.levels.specs.declared.Depth.{Depth}
@@ -21,7 +22,7 @@ use Rattle.levels.specs.declared.Answer.{Answer}
 use Rattle.levels.specs.declared.Answer.TheVariants.{Accepted, RecordDoesNotFit, ContributionTooLarge, DepthTooLarge}
 use Rattle.levels.specs.IndexLaws.{every_holds, at_five, at_four}
 use Rattle.levels.specs.NumberLaws.{fits_holds, room_says, depth_room_says, depth_has_room, substream_has_room, room_of_depths, room_of_substreams, read_of_fit}
-use Rattle.window_rules.specs.KeepLaws.{sampled_covers, each_depth_at, each_substream_at, drain_keeps, drain_room}
+use Rattle.window_rules.proofs.KeepLaws.{sampled_covers, each_depth_at, each_substream_at, drain_keeps, drain_room}
 
 -- A call hands back the window as it was, or the one that the rule gives where every test passed.
 module _ (P : Window → Type 0) (w : Window) where
@@ -121,11 +122,6 @@ pub fits_always : (calls : List Call) → fits_of (after fresh_of calls).levels 
 fits_always calls =
     always (λ w. fits_of w.levels ≡ true) (λ w playhead removal c p f r. stepped_fits w playhead removal c f r) (λ w p. restarted_fits w) fresh_of calls fresh_fits
 
--- "every peak's total is at least its accumulator's total, every substream peak at least its depth"
-pub record Covered (l : Levels) : Type 0 where
-  pub depths : (k : ℕ) → k < 5 → (depth_at l.depth k).total ≤ (depth_at l.depth k).peak.total
-  pub substreams : (i : ℕ) → i < 4 → (substream_at l.substream i).bytes ≤ (substream_at l.substream i).peak
-
 substream_by : (t p : ℕ) (b : Bool) → leb t p ≡ b → t ≤ pick b p t
 substream_by t p true e = leb-true t p e
 substream_by t p false e = omega arith
@@ -162,10 +158,6 @@ fresh_covers = record {
 pub peaks_cover : (calls : List Call) → Covered (after fresh_of calls).levels
 peaks_cover calls =
     always (λ w. Covered w.levels) (λ w playhead removal c p f r. stepped_covers w playhead removal c) (λ w p. restarted_covers w) fresh_of calls fresh_covers
-
--- "a peak's other parts are those of its moment": the overhead is what the stream part left of the total, not below 0
-pub Moments : Levels → Type 0
-Moments l = (k : ℕ) → k < 5 → (depth_at l.depth k).peak.overhead ≡ (depth_at l.depth k).peak.total - (depth_at l.depth k).peak.stream
 
 moment_by : (t s : ℕ) (p : Peak) (b : Bool) → p.overhead ≡ p.total - p.stream
     → (pick b p (record { total = t; stream = s; overhead = t - s })).overhead
