@@ -23,7 +23,6 @@ use Rattle.rules.specs.Units.{IfUnit, Hands}
 use Rattle.rules.proofs.OutcomeLaws.{step_hands}
 use Rattle.buffer.specs.Calls.{part_of}
 use Rattle.extract.specs.declared.Extractor.{Extractor}
-use Rattle.extract.specs.declared.Answer.{Answer}
 use Rattle.extract.specs.declared.Answer.TheVariants.{Unit as AUnit, InsufficientData, Quiet}
 use Rattle.extract.specs.Record.{unread_of, unread}
 use Rattle.extract.specs.Fits.{Fits, fits_when}

@@ -1,6 +1,6 @@
 -- Every unit handed out, in every history and every fresh scan: it stands among the accepted bytes, its timestamp stands ahead of it, units don't
 -- overlap, and they are numbered one by one.
-use Rattle.std.specs.Prelude.{◌≡◌, refl, List, [], ◌∷◌, ◌++◌, ℕ, suc, ◌+◌, ◌-◌, ◌≤◌, ◌<◌, length, take, drop}
+use Rattle.std.specs.Prelude.{◌≡◌, refl, List, [], ◌∷◌, ◌++◌, ℕ, suc, ◌+◌, ◌-◌, ◌≤◌, ◌<◌, take, drop}
 use Rattle.std.proofs.Common.{sym, ap, ◌∙◌, subst, arith, zero-add, length-append}
 use Rattle.std.proofs.lemmas.Bool.{false≢true}
 use Rattle.laws.specs.Parts.{part, part_further}
