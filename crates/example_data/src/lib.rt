@@ -1,4 +1,6 @@
 // The example streams of the commit, byte by byte as process/mod.rs has them. No code: the programs that run the cases share them.
+#![tactic(auto)]
+
 // A timestamp, a major unit and a minor one.
 pub const EXAMPLE_DATA: [u8; 120] = [
     0x01, 0x10, 0x00, 0x01, 0x00, 0x23, 0x00, 0x45, 0x00, 0x16, 0x00, 0x19, 0x00, 0x11, 0x80, 0x00,

@@ -1,5 +1,7 @@
 // Runs the ten tests of process/extract.rs over the reader: document 01, "The tests of 000 are run". A line a test: its name, and ok, or which
 // assertion was the first that differed.
+#![tactic(auto)]
+
 mod asserts;
 mod cases;
 mod seen;
@@ -8,10 +10,11 @@ mod stamp;
 use crate::asserts::Check;
 use crc::Algorithm;
 use extract::{Extractor, Opened};
-use libc::STDOUT_FILENO;
+
+const STDOUT: i32 = 1;
 
 fn say(s: &[u8]) {
-    io::write_all(STDOUT_FILENO, s);
+    io::write_all(STDOUT, s);
 }
 
 fn tell(name: &[u8], check: Check) {
@@ -21,7 +24,7 @@ fn tell(name: &[u8], check: Check) {
         return;
     }
     say(b": assertion ");
-    io::print_decimal(STDOUT_FILENO, check.first);
+    io::print_decimal(STDOUT, check.first);
     say(b" differs\n");
 }
 

@@ -1,4 +1,6 @@
 // The program of `replay` over recorded calls, whose answers the Rust gave: README.md says how they were chosen and made.
+#![tactic(auto)]
+
 fn main() {
     replaying::replay();
 }

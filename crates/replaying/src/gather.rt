@@ -2,7 +2,9 @@
 // the text goes and gives the place behind it.
 ghost use Rattle.std.specs.Prelude.{◌≤◌};
 
-use libc::STDOUT_FILENO;
+const STDOUT: i32 = 1;
+
+pub(crate) const STDERR: i32 = 2;
 
 // How much of the lent slice is for text; what lies behind is for a line's bytes.
 pub(crate) const TEXT: usize = 65536;
@@ -51,7 +53,7 @@ pub(crate) fn put_hex(out: &mut [u8], at: usize, n: u64, width: usize) -> usize 
 pub(crate) fn flush(out: &[u8], at: usize) -> usize {
     let first: usize = 0;
     if at <= out.len() {
-        io::write_all(STDOUT_FILENO, &out[first..at]);
+        io::write_all(STDOUT, &out[first..at]);
     }
     0
 }
@@ -68,6 +70,6 @@ pub(crate) fn put_line(out: &mut [u8], at: usize, line: &[u8]) -> usize {
         return put_byte(out, behind, b'\n');
     }
     let empty = flush(out, at);
-    io::write_all(STDOUT_FILENO, line);
+    io::write_all(STDOUT, line);
     put_byte(out, empty, b'\n')
 }

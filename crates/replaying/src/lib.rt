@@ -4,6 +4,8 @@
 //
 // Nothing is decided here. The script is read in pieces, so it may be of any length; a line may have 262,143 bytes. A line that is no call is
 // named on standard error and counted.
+#![tactic(auto)]
+
 ghost use Rattle.std.specs.Prelude.{◌≡◌, length};
 
 mod forge; // fields set by hand
@@ -18,7 +20,7 @@ mod sums; // Adler-32
 mod watch; // start timing, the window, caps
 mod words; // names, numbers and bytes of a line
 
-use crate::gather::{TEXT, flush};
+use crate::gather::{STDERR, TEXT, flush};
 use crate::outcome::{Outcome, counted, no_call, put_outcome};
 use crate::plain::{check_call, other_line, timestamp_call};
 use crate::reader::{Read, Reader, push, reader_call};
@@ -28,7 +30,6 @@ use crate::words::{Name, bytes_behind, named, numbers_from};
 use crc::Algorithm;
 use extract::Extractor;
 use kinds::BytePosition;
-use libc::STDERR_FILENO;
 use rules::{Losses, Stream, Waiting};
 use timing::HiresOutputTimingState;
 use window_rules::Window;
@@ -204,9 +205,9 @@ fn run(session: Session, input: &mut [u8], lent: &mut [u8], out: &mut [u8]) -> S
 fn finish(session: Session, out: &[u8]) {
     flush(out, session.at);
     if session.refused != 0 {
-        io::write_all(STDERR_FILENO, b"replay: lines that are no call: ");
-        io::print_decimal(STDERR_FILENO, session.refused);
-        io::write_all(STDERR_FILENO, b"\n");
+        io::write_all(STDERR, b"replay: lines that are no call: ");
+        io::print_decimal(STDERR, session.refused);
+        io::write_all(STDERR, b"\n");
     }
 }
 

@@ -1,7 +1,6 @@
 // What a line of the script comes to, and how that is written.
 use crate::form::{Part, nothing, put_parts};
-use crate::gather::{put_line, with_room};
-use libc::STDERR_FILENO;
+use crate::gather::{STDERR, put_line, with_room};
 
 // A line is a call, written as it stands, passed over, or no call.
 #[derive(Clone, Copy)]
@@ -46,9 +45,9 @@ pub(crate) fn no_call() -> Outcome {
 }
 
 fn refuse(line: &[u8]) {
-    io::write_all(STDERR_FILENO, b"replay: no call: ");
-    io::write_all(STDERR_FILENO, line);
-    io::write_all(STDERR_FILENO, b"\n");
+    io::write_all(STDERR, b"replay: no call: ");
+    io::write_all(STDERR, line);
+    io::write_all(STDERR, b"\n");
 }
 
 // Writes what a line came to.

@@ -1,7 +1,9 @@
 // The script, read in pieces and handed out line by line.
 ghost use Rattle.std.specs.Prelude.{◌-◌, ◌≤◌};
 
-use libc::{STDERR_FILENO, STDIN_FILENO};
+use crate::gather::STDERR;
+
+const STDIN: i32 = 0;
 
 // A line of what was read, and where the reading stands: `used` and `have` are the ends of what was handed out and of what was read. A line is
 // empty where more had to be read first. Closed: nothing more arrives; ended: no line is left.
@@ -61,13 +63,12 @@ fn end_line(input: &mut [u8], have: usize) {
     }
 }
 
-// One read behind the bytes that are there: how many came.
+// Reads behind the bytes that are there, until the slice is full or nothing more comes: how many came.
 fn read_more(input: &mut [u8], have: usize) -> usize {
     if input.len() <= have {
         return 0;
     }
-    let got = libc::read(STDIN_FILENO, &mut input[have..]);
-    io::count(got, input)
+    io::read_full(STDIN, &mut input[have..])
 }
 
 // Bytes stand at the front, of which no line has been handed out.
@@ -87,7 +88,7 @@ fn read_on(input: &mut [u8], p: Place) -> Place {
     let have = keep_rest(input, p.used, p.have);
     if input.len() <= have {
         io::write_all(
-            STDERR_FILENO,
+            STDERR,
             b"replay: a line of more than 262,143 bytes: stopped\n",
         );
         return stop();
