@@ -1,3 +1,2 @@
 -- How many bytes are outside units, and what that number means.
 pub mod Coverage
-pub mod CoverageLaws

@@ -18,7 +18,7 @@ use Rattle.rules.specs.declared.Waiting.{Waiting}
 use Rattle.rules.specs.declared.Waiting.TheVariants.{Nothing, Stamp}
 use Rattle.rules.specs.declared.Stream.{Stream}
 use Rattle.rules.specs.Request.{Event, handed, too_short, failed}
-use Rattle.rules.specs.CarryLaws.{Carried, carried_request}
+use Rattle.rules.proofs.CarryLaws.{Carried, carried_request}
 use Rattle.extract.specs.Record.{fits_of, unread, opened}
 use Rattle.extract.specs.Calls.{push_answer_of, place_of, grown, on_accepted, pushed_of, left_at, answered_of, asked_of}
 use Rattle.extract.specs.declared.Extractor.{Extractor}

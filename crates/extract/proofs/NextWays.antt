@@ -11,12 +11,12 @@ use Rattle.machine.specs.Step.{speak, Below}
 use Rattle.machine.specs.Always.{AfterStep}
 use Rattle.machine.specs.Scan as Scan
 use Rattle.machine.specs.Scan.{request}
-use Rattle.machine.specs.ScanLaws.{request_dry, request_quiet, request_speak}
+use Rattle.machine.proofs.ScanLaws.{request_dry, request_quiet, request_speak}
 use Rattle.rules.specs.declared.Stream.{Stream}
 use Rattle.rules.specs.declared.Unit.{Unit as TheUnit}
 use Rattle.rules.specs.Request.{Event, handed, too_short, failed, step_by, size_of, reader}
-use Rattle.rules.specs.RulesLaws.{reader_laws}
-use Rattle.rules.specs.FitLaws.{Fit, fit_step}
+use Rattle.rules.proofs.RulesLaws.{reader_laws}
+use Rattle.rules.proofs.FitLaws.{Fit, fit_step}
 use Rattle.extract.specs.declared.Extractor.{Extractor}
 use Rattle.extract.specs.declared.Answer.TheVariants.{Unit as AUnit, InvalidAccessUnitLength, ParityCheckFailed, InsufficientData, Quiet as AQuiet, Record}
 use Rattle.extract.specs.declared.Asked.{Asked}

@@ -17,11 +17,11 @@ use Rattle.rules.specs.declared.Verdict.{Verdict}
 use Rattle.rules.specs.declared.Verdict.TheVariants.{Lock, Lost, Short, Failed, Whole}
 use Rattle.rules.specs.Search.{find, keep, stamp_at, candidate}
 use Rattle.rules.specs.Request.{lose, lock, pass_on, unit_of, advance, arrive, unit, act, search, step_by}
-use Rattle.machine.specs.AskLaws.{decide_fits, decide_all}
-use Rattle.rules.specs.VerdictLaws.{candidate_all, unit_all}
-use Rattle.rules.specs.StepLaws.{step_locked, step_searching}
-use Rattle.rules.specs.FindLaws.{found_fits}
-use Rattle.rules.specs.FitLaws.{Fit}
+use Rattle.machine.proofs.AskLaws.{decide_fits, decide_all}
+use Rattle.rules.proofs.VerdictLaws.{candidate_all, unit_all}
+use Rattle.rules.proofs.StepLaws.{step_locked, step_searching}
+use Rattle.rules.proofs.FindLaws.{found_fits}
+use Rattle.rules.proofs.FitLaws.{Fit}
 use Rattle.extract.specs.declared.step.Outcome.TheVariants.{Dry, Quiet, Handed, TooShort, Failed as CheckFailed}
 use Rattle.extract.specs.declared.step.Stepped.{Stepped}
 use Rattle.judging.specs.declared.search.Found.{Found}

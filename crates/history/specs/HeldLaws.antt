@@ -12,13 +12,13 @@ use Rattle.laws.specs.Parts.{part, length_part, drop_part}
 use Rattle.machine.specs.Step.{Rests}
 use Rattle.machine.specs.Scan as Scan
 use Rattle.machine.specs.Scan.{request, ran_dry, spoke, Asks, runs_dry, goes_on, speaks}
-use Rattle.machine.specs.ScanLaws.{request_asks}
+use Rattle.machine.proofs.ScanLaws.{request_asks}
 use Rattle.machine.specs.History.{taken, refused, Grown, Takes, Answers, Follows, Opens, Log, after_next, turn, ask}
 use Rattle.machine.specs.Ask.{moved}
 use Rattle.machine.specs.Always.{AfterRequest, OnSpeak, Consumed}
-use Rattle.machine.specs.AlwaysLaws.{after_map, request_always, request_consumes}
+use Rattle.machine.proofs.AlwaysLaws.{after_map, request_always, request_consumes}
 use Rattle.machine.specs.Lent.{paste}
-use Rattle.machine.specs.LentLaws.{length_paste, part_pasted}
+use Rattle.machine.proofs.LentLaws.{length_paste, part_pasted}
 use Rattle.crc.specs.declared.Algorithm.{Algorithm}
 use Rattle.rules.specs.declared.Stream.{Stream}
 use Rattle.rules.specs.declared.Verdict.{Verdict}
@@ -26,9 +26,9 @@ use Rattle.rules.specs.declared.Verdict.TheVariants.{Lock, Lost, Short, Failed, 
 use Rattle.rules.specs.Request.{Event, handed, too_short, failed, arrive, act, search, step_by, reader, new}
 use Rattle.rules.specs.Search.{find}
 use Rattle.laws.specs.First.{first_from}
-use Rattle.rules.specs.StepLaws.{step_shows}
-use Rattle.rules.specs.RulesLaws.{reader_laws}
-use Rattle.rules.specs.FitLaws.{Fit, fit_step, at, reader_counts}
+use Rattle.rules.proofs.StepLaws.{step_shows}
+use Rattle.rules.proofs.RulesLaws.{reader_laws}
+use Rattle.rules.proofs.FitLaws.{Fit, fit_step, at, reader_counts}
 use Rattle.buffer.specs.Laws.{start_inside}
 use Rattle.extract.specs.declared.Extractor.{Extractor}
 use Rattle.extract.specs.declared.PushAnswer.{PushAnswer}

@@ -12,15 +12,15 @@ use Rattle.laws.specs.Pick.{pick}
 use Rattle.laws.specs.Parts.{part, part_part}
 use Rattle.machine.specs.Scan as Scan
 use Rattle.machine.specs.Scan.{request, ran_dry, spoke, Asks, goes_on, speaks}
-use Rattle.machine.specs.ScanLaws.{request_asks}
+use Rattle.machine.proofs.ScanLaws.{request_asks}
 use Rattle.machine.specs.Always.{AfterStep, OnSpeak, Consumed, Placed}
 use Rattle.rules.specs.declared.Stream.{Stream}
 use Rattle.rules.specs.declared.Unit.{Unit as TheUnit}
 use Rattle.rules.specs.Request.{Event, handed, too_short, failed, reader}
-use Rattle.rules.specs.RulesLaws.{reader_laws}
-use Rattle.rules.specs.FitLaws.{at, reader_counts}
+use Rattle.rules.proofs.RulesLaws.{reader_laws}
+use Rattle.rules.proofs.FitLaws.{at, reader_counts}
 use Rattle.rules.specs.Units.{IfUnit, Hands}
-use Rattle.rules.specs.OutcomeLaws.{step_hands}
+use Rattle.rules.proofs.OutcomeLaws.{step_hands}
 use Rattle.buffer.specs.Calls.{part_of}
 use Rattle.extract.specs.declared.Extractor.{Extractor}
 use Rattle.extract.specs.declared.Answer.{Answer}

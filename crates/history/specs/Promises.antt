@@ -6,20 +6,20 @@ use Rattle.std.specs.Prelude.{ℕ, ◌+◌, ◌≤◌, ◌<◌, ◌≡◌, refl,
 use Rattle.std.proofs.Common.{arith, ap}
 use Rattle.laws.specs.Parts.{part}
 use Rattle.machine.specs.Scan.{Result, Scans}
-use Rattle.machine.specs.ScanLaws.{scan_scans, scans_only}
+use Rattle.machine.proofs.ScanLaws.{scan_scans, scans_only}
 use Rattle.machine.specs.Always.{Every, Ordered}
-use Rattle.machine.specs.AlwaysLaws.{history_always}
+use Rattle.machine.proofs.AlwaysLaws.{history_always}
 use Rattle.machine.specs.History.{Call, piece, ask, Log, history, play, turn, requests, Begins, Demand3, shown}
-use Rattle.machine.specs.HistoryLaws as Laws
+use Rattle.machine.proofs.HistoryLaws as Laws
 use Rattle.crc.specs.declared.Algorithm.{Algorithm}
 use Rattle.rules.specs.declared.Stream.{Stream}
 use Rattle.rules.specs.declared.Unit.{Unit as TheUnit}
 use Rattle.rules.specs.Request.{Event, reader, size_of, new, fresh_scan}
-use Rattle.rules.specs.RulesLaws.{reader_laws}
-use Rattle.rules.specs.RestLaws.{rest_holds_at_most_8189}
+use Rattle.rules.proofs.RulesLaws.{reader_laws}
+use Rattle.rules.proofs.RestLaws.{rest_holds_at_most_8189}
 use Rattle.rules.specs.Units.{IfUnit, Promised, Follows as Behind, Indexed}
-use Rattle.rules.specs.StampLaws.{standing_lasts}
-use Rattle.rules.specs.HandedLaws.{units_stand, units_apart, units_numbered, new_stands}
+use Rattle.rules.proofs.StampLaws.{standing_lasts}
+use Rattle.rules.proofs.HandedLaws.{units_stand, units_apart, units_numbered, new_stands}
 use Rattle.buffer.specs.Calls.{part_of}
 use Rattle.extract.specs.declared.Answer.TheVariants.{Unit as AUnit}
 use Rattle.extract.specs.Calls.{asked_of}

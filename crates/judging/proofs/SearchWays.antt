@@ -14,7 +14,7 @@ use Rattle.laws.specs.Parts.{byte_at, part, part_part}
 use Rattle.laws.specs.First.{Place, At, Nowhere, first_from, first_none, scan_end, scan_here, scan_later}
 use Rattle.laws.specs.Words.{word}
 use Rattle.machine.specs.Ask.{Ask, either, first, ◌>>=◌, Eat, eat, ask, decide}
-use Rattle.machine.specs.AskLaws.{ask_done, ask_byte, ask_byte_missing, ask_front, ask_front_missing, ask_true, ask_false, then_ask, ask_then, decide_made, decide_unasked}
+use Rattle.machine.proofs.AskLaws.{ask_done, ask_byte, ask_byte_missing, ask_front, ask_front_missing, ask_true, ask_false, then_ask, ask_then, decide_made, decide_unasked}
 use Rattle.crc.specs.declared.Algorithm.{Algorithm}
 use Rattle.crc.specs.Crc.{check_of}
 use Rattle.timestamp.specs.declared.Timestamp.{Timestamp}
@@ -27,7 +27,7 @@ use Rattle.rules.specs.declared.Waiting.TheVariants.{Nothing, Stamp as Waits}
 use Rattle.rules.specs.declared.Verdict.{Verdict}
 use Rattle.rules.specs.declared.Verdict.TheVariants.{Lock, Short, Failed}
 use Rattle.rules.specs.Search.{candidate_at, find, kept, stamp_at, sync_length, unit_length, checks, candidate}
-use Rattle.rules.specs.BoundLaws.{sync_length_bounded}
+use Rattle.rules.proofs.BoundLaws.{sync_length_bounded}
 use Rattle.judging.specs.declared.search.Length.{Length}
 use Rattle.judging.specs.declared.search.Length.TheVariants.{Known, Missing as Unsaid}
 use Rattle.judging.specs.Means.{length_of, SyncIs}

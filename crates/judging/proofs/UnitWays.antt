@@ -13,14 +13,14 @@ use Rattle.laws.specs.Parts.{byte_at}
 use Rattle.laws.specs.Words.{word}
 use Rattle.laws.specs.Turns.{less_one}
 use Rattle.machine.specs.Ask.{Ask, byte, either, ◌>>=◌, Eat, eat, ask, arrived, decide}
-use Rattle.machine.specs.AskLaws.{ask_done, ask_byte, ask_byte_missing, ask_true, ask_false, then_ask, ask_then, decide_made, decide_waits, decide_unasked}
+use Rattle.machine.proofs.AskLaws.{ask_done, ask_byte, ask_byte_missing, ask_true, ask_false, then_ask, ask_then, decide_made, decide_waits, decide_unasked}
 use Rattle.rules.specs.declared.Loss.TheVariants.{Mismatch, Parity}
 use Rattle.rules.specs.declared.Verdict.{Verdict}
 use Rattle.rules.specs.declared.Verdict.TheVariants.{Lost, Short, Whole}
 use Rattle.rules.specs.Search.{sync_length, unit_length}
 use Rattle.rules.specs.Request.{End, directory, even, closing, body, unit}
 use Rattle.rules.specs.Units.{is_major}
-use Rattle.rules.specs.BoundLaws.{sync_length_bounded, directory_bounded}
+use Rattle.rules.proofs.BoundLaws.{sync_length_bounded, directory_bounded}
 use Rattle.judging.specs.declared.search.Length.{Length}
 use Rattle.judging.specs.declared.search.Length.TheVariants.{Known, Missing as Unsaid}
 use Rattle.judging.specs.declared.unit.Walk.{Walk}

@@ -14,15 +14,15 @@ use Rattle.buffer.specs.Calls.{part_of}
 use Rattle.laws.specs.Pick.{pick}
 use Rattle.machine.specs.Scan as Scan
 use Rattle.machine.specs.Always.{Numbered, Every}
-use Rattle.machine.specs.AlwaysLaws.{history_always}
+use Rattle.machine.proofs.AlwaysLaws.{history_always}
 use Rattle.machine.specs.History.{Call, piece, ask, dried, told, taken, Log, opened, after_push, after_next, turn, play, Begins}
-use Rattle.machine.specs.HistoryLaws.{play_append}
+use Rattle.machine.proofs.HistoryLaws.{play_append}
 use Rattle.crc.specs.declared.Algorithm.{Algorithm}
 use Rattle.rules.specs.declared.Stream.{Stream}
 use Rattle.rules.specs.Request.{Event, handed, too_short, failed, reader, new, fresh_scan}
-use Rattle.rules.specs.RulesLaws.{reader_laws}
+use Rattle.rules.proofs.RulesLaws.{reader_laws}
 use Rattle.rules.specs.Units.{IfUnit}
-use Rattle.rules.specs.HandedLaws.{Passed, units_apart, new_stands}
+use Rattle.rules.proofs.HandedLaws.{Passed, units_apart, new_stands}
 use Rattle.extract.specs.declared.Extractor.{Extractor}
 use Rattle.extract.specs.declared.Asked.{Asked as Answered}
 use Rattle.extract.specs.declared.Answer.{Answer}

@@ -8,17 +8,17 @@ use Rattle.laws.specs.Parts.{part, part_further}
 use Rattle.laws.specs.First.{At}
 use Rattle.machine.specs.Ask.{Eat, goal}
 use Rattle.machine.specs.Always.{AfterStep, Placed, Lasts}
-use Rattle.machine.specs.AlwaysLaws.{placed_lasts}
+use Rattle.machine.proofs.AlwaysLaws.{placed_lasts}
 use Rattle.timestamp.specs.declared.Timestamp.{Timestamp}
 use Rattle.timestamp.specs.declared.Parsed.{Parsed}
 use Rattle.timestamp.specs.declared.Parsed.TheVariants.{Stamp as Parses, Refused}
 use Rattle.timestamp.specs.Timestamp.{parse_of}
 use Rattle.rules.specs.Search.{find, keep, kept, stamp_of, stamp_at}
 use Rattle.rules.specs.Request.{advance, lose, arrive, lock, act, reader}
-use Rattle.rules.specs.VerdictLaws.{Says}
-use Rattle.rules.specs.RulesLaws.{stamp_read}
-use Rattle.rules.specs.StepLaws.{step, verdict_step, step_shows, moved_shows, after_both}
-use Rattle.rules.specs.FitLaws.{at, reader_counts}
+use Rattle.rules.proofs.VerdictLaws.{Says}
+use Rattle.rules.proofs.RulesLaws.{stamp_read}
+use Rattle.rules.proofs.StepLaws.{step, verdict_step, step_shows, moved_shows, after_both}
+use Rattle.rules.proofs.FitLaws.{at, reader_counts}
 use Rattle.rules.specs.Units.{Ahead, Stamped}
 use Rattle.rules.specs.declared.Waiting.{Waiting}
 use Rattle.rules.specs.declared.Waiting.TheVariants.{Nothing, Stamp as Waits}

@@ -13,13 +13,13 @@ use Rattle.laws.specs.Parts.{part, part_further}
 use Rattle.laws.specs.First.{Place, At, Nowhere}
 use Rattle.machine.specs.Step.{dry, further, Below, Laws}
 use Rattle.machine.specs.Ask.{Ask, Eat, decide, moved, settle}
-use Rattle.machine.specs.AskLaws.{settle_further}
+use Rattle.machine.proofs.AskLaws.{settle_further}
 use Rattle.timestamp.specs.Timestamp.{parse_of}
 use Rattle.rules.specs.Search.{find, keep, kept, stamp_of, stamp_at, candidate}
 use Rattle.rules.specs.Request.{unit, advance, arrive, act, search, size_of, reader}
-use Rattle.rules.specs.FindLaws.{found_fits, found_further, found_again, found_late, shift, found_behind}
-use Rattle.rules.specs.VerdictLaws.{Says}
-use Rattle.rules.specs.StepLaws.{step, step_locked, step_searching, step_shows}
+use Rattle.rules.proofs.FindLaws.{found_fits, found_further, found_again, found_late, shift, found_behind}
+use Rattle.rules.proofs.VerdictLaws.{Says}
+use Rattle.rules.proofs.StepLaws.{step, step_locked, step_searching, step_shows}
 use Rattle.rules.specs.declared.Stream.{Stream}
 use Rattle.rules.specs.declared.Waiting.{Waiting}
 use Rattle.rules.specs.declared.Waiting.TheVariants.{Nothing}

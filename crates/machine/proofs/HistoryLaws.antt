@@ -10,7 +10,7 @@ use Prim.Native.Nat.{ℕ, zero, suc, ◌+◌, ◌≤◌, ◌<◌}
 use Rattle.std.proofs.Math.ListN.{length, length-append}
 use Rattle.machine.specs.Step.{Machine, Laws, Rests}
 use Rattle.machine.specs.Scan.{Answer, ran_dry, spoke, request, before, scan}
-use Rattle.machine.specs.ScanLaws.{RestsAfter, LessAfter, answered, request_dry, request_rests, request_less, request_keeps, scan_rested, scan_bounded}
+use Rattle.machine.proofs.ScanLaws.{RestsAfter, LessAfter, answered, request_dry, request_rests, request_less, request_keeps, scan_rested, scan_bounded}
 use Rattle.machine.specs.History.{Pushed, taken, refused, Asked, dried, told, Calls, Call, piece, ask, Log, opened, after_push, after_next, turn, play, history, View, Takes, heard, Stays, Answers, Follows, Opens, requests, Begins, shown, size_now, RestsNow, Demand3}
 
 -- 1. What was handed out stays.

@@ -6,16 +6,16 @@ use Rattle.std.proofs.lemmas.Bool.{false≢true}
 use Rattle.laws.specs.Parts.{part, part_further}
 use Rattle.machine.specs.Ask.{Eat, goal, moved}
 use Rattle.machine.specs.Always.{AfterStep, OnSpeak, Placed, Lasts, Every, Ordered}
-use Rattle.machine.specs.AlwaysLaws.{after_map, speak_map, numbered_lasts, ordered_lasts, fresh_always}
+use Rattle.machine.proofs.AlwaysLaws.{after_map, speak_map, numbered_lasts, ordered_lasts, fresh_always}
 use Rattle.crc.specs.declared.Algorithm.{Algorithm}
 use Rattle.timestamp.specs.declared.Timestamp.{Timestamp}
 use Rattle.rules.specs.Request.{arrive, Event, handed, too_short, failed, act, reader, new, fresh_scan}
-use Rattle.rules.specs.RulesLaws.{reader_laws}
-use Rattle.rules.specs.StepLaws.{step, verdict_step, step_shows, moved_shows}
-use Rattle.rules.specs.FitLaws.{at}
+use Rattle.rules.proofs.RulesLaws.{reader_laws}
+use Rattle.rules.proofs.StepLaws.{step, verdict_step, step_shows, moved_shows}
+use Rattle.rules.proofs.FitLaws.{at}
 use Rattle.rules.specs.Units.{Stands, Hands, IfUnit, Follows, Carries, Stamped, Promised, Indexed, units_in}
-use Rattle.rules.specs.OutcomeLaws.{step_hands}
-use Rattle.rules.specs.StampLaws.{nothing_waits, Standing, standing_lasts}
+use Rattle.rules.proofs.OutcomeLaws.{step_hands}
+use Rattle.rules.proofs.StampLaws.{nothing_waits, Standing, standing_lasts}
 use Rattle.rules.specs.declared.Waiting.TheVariants.{Stamp as Waits}
 use Rattle.rules.specs.declared.Stream.{Stream}
 use Rattle.rules.specs.declared.Unit.{Unit as TheUnit}

@@ -3,7 +3,7 @@ use Rattle.std.specs.Prelude.{◌≡◌, List, [], ℕ, ◌-◌, length, take, d
 use Rattle.std.proofs.Math.Path.{refl}
 use Rattle.machine.specs.Ask.{Eat, goal}
 use Rattle.machine.specs.Always.{AfterStep, AfterRequest}
-use Rattle.machine.specs.AlwaysLaws.{after_map, request_always}
+use Rattle.machine.proofs.AlwaysLaws.{after_map, request_always}
 use Rattle.machine.specs.Scan.{request}
 use Rattle.crc.specs.declared.Algorithm.{Algorithm}
 use Rattle.timestamp.specs.declared.Timestamp.{Timestamp}
@@ -11,9 +11,9 @@ use Rattle.timestamp.specs.declared.Parsed.TheVariants.{Stamp as Parses}
 use Rattle.timestamp.specs.Timestamp.{parse_of}
 use Rattle.rules.specs.Search.{kept, keep}
 use Rattle.rules.specs.Request.{act, arrive, reader}
-use Rattle.rules.specs.RulesLaws.{reader_laws}
-use Rattle.rules.specs.StepLaws.{step, verdict_step, step_shows, moved_shows}
-use Rattle.rules.specs.StampLaws.{nothing_waits, kept_tells, stamp_at_tells}
+use Rattle.rules.proofs.RulesLaws.{reader_laws}
+use Rattle.rules.proofs.StepLaws.{step, verdict_step, step_shows, moved_shows}
+use Rattle.rules.proofs.StampLaws.{nothing_waits, kept_tells, stamp_at_tells}
 use Rattle.rules.specs.declared.Waiting.TheVariants.{Stamp as Waits}
 use Rattle.rules.specs.declared.Stream.{Stream}
 use Rattle.rules.specs.declared.Verdict.{Verdict}

@@ -7,16 +7,16 @@ use Rattle.std.proofs.Common.{add-zero}
 use Rattle.laws.specs.First.{At}
 use Rattle.machine.specs.Step.{Step, dry, quiet, speak}
 use Rattle.machine.specs.Ask.{Eat, decide, moved}
-use Rattle.machine.specs.AskLaws.{decide_fits}
+use Rattle.machine.proofs.AskLaws.{decide_fits}
 use Rattle.machine.specs.Always.{OnSpeak}
 use Rattle.rules.specs.Search.{find}
 use Rattle.rules.specs.Request.{unit, lose, arrive, Event, handed, too_short, failed, act}
 use Rattle.rules.specs.Units.{Hands, IfUnit}
 use Rattle.rules.specs.Verdicts.{CandidateMeans, UnitMeans, Loses, StepMeans}
-use Rattle.rules.specs.StepLaws.{step, step_shows}
-use Rattle.rules.specs.FitLaws.{raise_errors}
-use Rattle.rules.specs.MeaningLaws.{candidate_means, unit_means}
-use Rattle.rules.specs.UnitLaws.{whole_is_unit}
+use Rattle.rules.proofs.StepLaws.{step, step_shows}
+use Rattle.rules.proofs.FitLaws.{raise_errors}
+use Rattle.rules.proofs.MeaningLaws.{candidate_means, unit_means}
+use Rattle.rules.proofs.UnitLaws.{whole_is_unit}
 use Rattle.rules.specs.declared.Stream.{Stream}
 use Rattle.rules.specs.declared.Loss.{Loss}
 use Rattle.rules.specs.declared.Loss.TheVariants.{Length, Check, Mismatch, Parity}

@@ -5,11 +5,11 @@ use Rattle.std.proofs.Common.{sym, ap, ◌∙◌, subst, append_assoc, append-ni
 use Rattle.std.proofs.lemmas.List.{drop-append-le}
 use Rattle.machine.specs.Step.{Step, dry, quiet, speak, Machine, Laws, Rests}
 use Rattle.machine.specs.Scan.{Answer, ran_dry, spoke, Result, request, scan, Asks, runs_dry, goes_on, speaks, Scans, ends, one_more}
-use Rattle.machine.specs.ScanLaws.{request_asks, scan_scans}
+use Rattle.machine.proofs.ScanLaws.{request_asks, scan_scans}
 use Rattle.machine.specs.Ask.{Ask, Eat, decide, Move, silent, aloud, goal, moved, settle}
-use Rattle.machine.specs.AskLaws.{settle_cases}
+use Rattle.machine.proofs.AskLaws.{settle_cases}
 use Rattle.machine.specs.History.{Calls, Call, history, View, Follows, Opens}
-use Rattle.machine.specs.HistoryLaws.{AfterAnswer, history_keeps, idle_rests}
+use Rattle.machine.proofs.HistoryLaws.{AfterAnswer, history_keeps, idle_rests}
 use Rattle.machine.specs.Always.{AfterStep, AfterRequest, OnSpeak, Kept, Lasts, Numbered, Every, Ordered, Consumed, Placed, Counts}
 
 -- 1. Requests, scans and histories keep what steps and pieces keep.

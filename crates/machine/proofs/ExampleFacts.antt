@@ -4,11 +4,12 @@ use Rattle.std.specs.Prelude.{◌≡◌, refl, true, List, [], ◌++◌, ℕ, �
 use Rattle.std.proofs.Common.{ap, arith, length-append, length-take-le}
 use Rattle.laws.specs.Parts.{part, part_further}
 use Rattle.machine.specs.Ask.{goal, moved, asking}
-use Rattle.machine.specs.AskLaws.{settle_cases, settle_dry, decide_none}
+use Rattle.machine.proofs.AskLaws.{settle_cases, settle_dry, decide_none}
 use Rattle.machine.specs.History.{Call, history}
 use Rattle.machine.specs.Always.{Counts, OnSpeak, Placed, Every}
-use Rattle.machine.specs.AlwaysLaws.{settle_consumes, placed_lasts, numbered_lasts, history_always, dry_bounded}
-use Rattle.machine.specs.Example.{State, Event, Verdict, junk, whole, question, act, reader, new, reader_laws, view, calls, follows, opening, opens}
+use Rattle.machine.proofs.AlwaysLaws.{settle_consumes, placed_lasts, numbered_lasts, history_always, dry_bounded}
+use Rattle.machine.specs.Example.{State, Event, Verdict, junk, whole, question, act, reader, new, view, calls, opening}
+use Rattle.machine.proofs.ExampleLaws.{reader_laws, follows, opens}
 
 -- OBLIGATION 3, the position counts what is consumed.
 reader_counts : Counts reader (λ s. s.position)

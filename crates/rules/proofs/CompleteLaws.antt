@@ -7,14 +7,14 @@ use Rattle.std.proofs.Math.Option.{some}
 use Rattle.std.proofs.Math.Seq.{drop-append_seam}
 use Rattle.machine.specs.Step.{speak}
 use Rattle.machine.specs.Ask.{done, byte, either, ◌>>=◌, ask, Eat, eat, decide, moved, settle}
-use Rattle.machine.specs.AskLaws.{ask_byte, ask_true, ask_false, ask_done, ask_then, then_ask, decide_made, decide_further}
+use Rattle.machine.proofs.AskLaws.{ask_byte, ask_true, ask_false, ask_done, ask_then, then_ask, decide_made, decide_further}
 use Rattle.rules.specs.Search.{sync_length, unit_length}
 use Rattle.rules.specs.Request.{directory, even, closing, body, unit, unit_of, pass_on, handed, act}
 use Rattle.rules.specs.Units.{begins_major, is_major, length_at, skipped, opening, IsUnit}
-use Rattle.rules.specs.MeaningLaws.{done_tells, then_tells, directory_tells}
-use Rattle.rules.specs.UnitLaws.{skips_much}
-use Rattle.rules.specs.BoundLaws.{directory_bounded}
-use Rattle.rules.specs.StepLaws.{step, step_locked}
+use Rattle.rules.proofs.MeaningLaws.{done_tells, then_tells, directory_tells}
+use Rattle.rules.proofs.UnitLaws.{skips_much}
+use Rattle.rules.proofs.BoundLaws.{directory_bounded}
+use Rattle.rules.proofs.StepLaws.{step, step_locked}
 use Rattle.rules.specs.declared.Stream.{Stream}
 use Rattle.rules.specs.declared.Verdict.{Verdict}
 use Rattle.rules.specs.declared.Verdict.TheVariants.{Lost, Whole}

@@ -5,11 +5,11 @@ use Rattle.std.proofs.Math.Option.{none, some}
 use Rattle.laws.specs.First.{Place, At, Nowhere}
 use Rattle.machine.specs.Step.{Step, dry, quiet, speak}
 use Rattle.machine.specs.Ask.{Eat, decide, Move, silent, aloud, goal, moved, settle}
-use Rattle.machine.specs.AskLaws.{settle_shows}
+use Rattle.machine.proofs.AskLaws.{settle_shows}
 use Rattle.machine.specs.Always.{AfterStep}
 use Rattle.rules.specs.Search.{find, keep, candidate}
 use Rattle.rules.specs.Request.{unit, advance, arrive, Event, act, search, step_by}
-use Rattle.rules.specs.VerdictLaws.{Keeps, candidate_all, unit_all}
+use Rattle.rules.proofs.VerdictLaws.{Keeps, candidate_all, unit_all}
 use Rattle.rules.specs.declared.Stream.{Stream}
 use Rattle.rules.specs.declared.Verdict.{Verdict}
 

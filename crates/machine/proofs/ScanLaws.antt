@@ -5,7 +5,7 @@ use Rattle.std.proofs.Math.Path.{refl, sym, ap}
 use Rattle.std.proofs.Common.{◌∙◌, subst, append-nil, not-suc-le-zero, arith}
 use Rattle.machine.specs.Step.{Step, dry, quiet, speak, Machine, further, Below, Laws, Rests}
 use Rattle.machine.specs.Loop.{Falls}
-use Rattle.machine.specs.LoopLaws.{looped_step, looped_only}
+use Rattle.machine.proofs.LoopLaws.{looped_step, looped_only}
 use Rattle.machine.specs.Scan.{Answer, ran_dry, spoke, Result, onward, request, nothing, before, until_dry, scan, Asks, runs_dry, goes_on, speaks, Scans, ends, one_more}
 
 module _ {S E : Type 0} where

@@ -6,14 +6,14 @@ use Rattle.std.proofs.Math.Option.{some}
 use borrow.Author.Tests.{leb-true, le-leb}
 use Rattle.laws.specs.Parts.{byte_at}
 use Rattle.machine.specs.Ask.{ask, Eat, decide, All, Own}
-use Rattle.machine.specs.AskLaws.{all_map, all_then, ask_all, ask_front_alone, decide_fits, decide_own}
+use Rattle.machine.proofs.AskLaws.{all_map, all_then, ask_all, ask_front_alone, decide_fits, decide_own}
 use Rattle.rules.specs.Search.{sync_length}
 use Rattle.rules.specs.Request.{directory, unit}
 use Rattle.rules.specs.Units.{is_major, length_at, skipped, opening, IsUnit}
-use Rattle.rules.specs.VerdictLaws.{IsWhole, Keeps, sync_length_all, directory_all, unit_all}
+use Rattle.rules.proofs.VerdictLaws.{IsWhole, Keeps, sync_length_all, directory_all, unit_all}
 use Rattle.rules.specs.Verdicts.{WholeUnit, UnitMeans}
-use Rattle.rules.specs.MeaningLaws.{directory_tells, skips_minor, unit_means}
-use Rattle.rules.specs.BoundLaws.{directory_bounded}
+use Rattle.rules.proofs.MeaningLaws.{directory_tells, skips_minor, unit_means}
+use Rattle.rules.proofs.BoundLaws.{directory_bounded}
 use Rattle.rules.specs.declared.Verdict.{Verdict}
 use Rattle.rules.specs.declared.Verdict.TheVariants.{Whole}
 

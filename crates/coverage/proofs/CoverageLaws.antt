@@ -9,20 +9,20 @@ use Rattle.laws.specs.Pick.{pick}
 use Rattle.laws.specs.Parts.{part, length_part}
 use Rattle.machine.specs.Ask.{moved}
 use Rattle.machine.specs.Always.{AfterStep, Lasts, Numbered, Ordered}
-use Rattle.machine.specs.AlwaysLaws.{fresh_always}
+use Rattle.machine.proofs.AlwaysLaws.{fresh_always}
 use Rattle.crc.specs.declared.Algorithm.{Algorithm}
 use Rattle.timestamp.specs.declared.Parsed.{Parsed}
 use Rattle.timestamp.specs.declared.Parsed.TheVariants.{Stamp as Parses, Refused}
 use Rattle.timestamp.specs.Timestamp.{parse_of}
 use Rattle.rules.specs.Search.{keep, kept, stamp_of, stamp_at}
 use Rattle.rules.specs.Request.{Event, handed, too_short, failed, arrive, act, lose, reader, new, fresh_scan}
-use Rattle.rules.specs.RulesLaws.{reader_laws}
-use Rattle.rules.specs.StepLaws.{step, step_shows}
-use Rattle.rules.specs.VerdictLaws.{Says}
-use Rattle.rules.specs.FitLaws.{at, raise_errors}
+use Rattle.rules.proofs.RulesLaws.{reader_laws}
+use Rattle.rules.proofs.StepLaws.{step, step_shows}
+use Rattle.rules.proofs.VerdictLaws.{Says}
+use Rattle.rules.proofs.FitLaws.{at, raise_errors}
 use Rattle.rules.specs.Units.{IfUnit, Follows, Promised}
-use Rattle.rules.specs.StampLaws.{Standing, standing_lasts}
-use Rattle.rules.specs.HandedLaws.{fresh_units_stand, fresh_units_apart, new_stands}
+use Rattle.rules.proofs.StampLaws.{Standing, standing_lasts}
+use Rattle.rules.proofs.HandedLaws.{fresh_units_stand, fresh_units_apart, new_stands}
 use Rattle.rules.specs.declared.Waiting.{Waiting}
 use Rattle.rules.specs.declared.Waiting.TheVariants.{Nothing, Stamp}
 use Rattle.rules.specs.declared.Unit.{Unit as TheUnit}

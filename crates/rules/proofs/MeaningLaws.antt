@@ -10,13 +10,13 @@ use borrow.Author.Tests.{leb-true, ltb-true, ltb-false, eqb-true, eqb-false}
 use Rattle.laws.specs.Parts.{byte_at, part}
 use Rattle.laws.specs.Turns.{less_one}
 use Rattle.machine.specs.Ask.{Ask, done, byte, front, either, ◌>>=◌, ask, Eat, arrived, decide}
-use Rattle.machine.specs.AskLaws.{pick_some, ask_then, then_ask}
+use Rattle.machine.proofs.AskLaws.{pick_some, ask_then, then_ask}
 use Rattle.crc.specs.declared.Algorithm.{Algorithm}
 use Rattle.rules.specs.Search.{sync_length, unit_length, candidate}
 use Rattle.rules.specs.Request.{End, directory, even, closing, body, unit}
 use Rattle.rules.specs.Units.{length_at, begins_major, skipped, opening, xor_onto}
 use Rattle.rules.specs.Verdicts.{CandidateMeans, Walked, UnitMeans}
-use Rattle.rules.specs.BoundLaws.{sync_length_bounded, directory_bounded}
+use Rattle.rules.proofs.BoundLaws.{sync_length_bounded, directory_bounded}
 use Rattle.rules.specs.declared.Loss.TheVariants.{Mismatch}
 use Rattle.rules.specs.declared.Verdict.{Verdict}
 use Rattle.rules.specs.declared.Verdict.TheVariants.{Lost}

@@ -3,7 +3,7 @@ use Rattle.std.specs.Prelude.{◌≡◌, refl, Bool, true, false, ℕ, zero, suc
 use Rattle.std.proofs.Common.{arith, ltb-true, ltb-false}
 use Rattle.std.proofs.lemmas.Nat.{and_le_r}
 use Rattle.machine.specs.Ask.{All, Eat}
-use Rattle.machine.specs.AskLaws.{all_map, all_then}
+use Rattle.machine.proofs.AskLaws.{all_map, all_then}
 use Rattle.crc.specs.declared.Algorithm.{Algorithm}
 use Rattle.rules.specs.Search.{sync_length, unit_length, candidate}
 use Rattle.rules.specs.Request.{End, directory, closing, body, unit}

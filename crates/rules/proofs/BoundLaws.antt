@@ -3,11 +3,11 @@ use Rattle.std.specs.Prelude.{◌≡◌, Bool, true, false, List, ℕ, ◌+◌, 
 use Rattle.std.proofs.Common.{subst, arith}
 use Rattle.std.proofs.Math.Option.{some}
 use Rattle.machine.specs.Ask.{ask, Eat, decide}
-use Rattle.machine.specs.AskLaws.{ask_all, decide_all}
+use Rattle.machine.proofs.AskLaws.{ask_all, decide_all}
 use Rattle.crc.specs.declared.Algorithm.{Algorithm}
 use Rattle.rules.specs.Search.{sync_length, unit_length, candidate}
 use Rattle.rules.specs.Request.{End, directory, unit}
-use Rattle.rules.specs.VerdictLaws.{Says, Keeps, sync_length_all, unit_length_all, directory_all, candidate_all, unit_all}
+use Rattle.rules.proofs.VerdictLaws.{Says, Keeps, sync_length_all, unit_length_all, directory_all, candidate_all, unit_all}
 use Rattle.rules.specs.declared.Loss.{Loss}
 use Rattle.rules.specs.declared.Verdict.{Verdict}
 use Rattle.rules.specs.declared.Verdict.TheVariants.{Lock, Lost, Short, Failed, Whole}

@@ -6,17 +6,17 @@ use Rattle.std.proofs.Math.Option.{none}
 use Rattle.laws.specs.First.{At}
 use Rattle.machine.specs.Step.{Step, dry, quiet, speak, Rests}
 use Rattle.machine.specs.Ask.{Upto, ask, decide, Move, silent, aloud, moved, settle}
-use Rattle.machine.specs.AskLaws.{all_map, decide_none, decide_unasked}
-use Rattle.machine.specs.ScanLaws.{RestsAfter, request_dry, request_rests, scan_rests}
-use Rattle.machine.specs.AlwaysLaws.{fresh_always}
+use Rattle.machine.proofs.AskLaws.{all_map, decide_none, decide_unasked}
+use Rattle.machine.proofs.ScanLaws.{RestsAfter, request_dry, request_rests, scan_rests}
+use Rattle.machine.proofs.AlwaysLaws.{fresh_always}
 use Rattle.crc.specs.declared.Algorithm.{Algorithm}
 use Rattle.rules.specs.Search.{candidate_at, find, keep, sync_length, unit_length, candidate}
 use Rattle.rules.specs.Request.{unit, arrive, Event, act, search, step_by, reader, new, fresh_scan}
-use Rattle.rules.specs.FindLaws.{found_at}
-use Rattle.rules.specs.VerdictLaws.{Keeps, candidate_all, unit_all}
-use Rattle.rules.specs.StepLaws.{step, step_shows}
-use Rattle.rules.specs.RulesLaws.{reader_laws}
-use Rattle.rules.specs.FitLaws.{sound_lasts, new_sound}
+use Rattle.rules.proofs.FindLaws.{found_at}
+use Rattle.rules.proofs.VerdictLaws.{Keeps, candidate_all, unit_all}
+use Rattle.rules.proofs.StepLaws.{step, step_shows}
+use Rattle.rules.proofs.RulesLaws.{reader_laws}
+use Rattle.rules.proofs.FitLaws.{sound_lasts, new_sound}
 use Rattle.rules.specs.declared.Stream.{Stream}
 
 -- 1. Neither question waits for more than 8,190 bytes.

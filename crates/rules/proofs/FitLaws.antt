@@ -6,13 +6,13 @@ use Rattle.std.proofs.lemmas.Bool.{false≢true}
 use Rattle.laws.specs.First.{At}
 use Rattle.machine.specs.Ask.{Eat, goal}
 use Rattle.machine.specs.Always.{AfterStep, Consumed, Counts, Lasts}
-use Rattle.machine.specs.AlwaysLaws.{after_map, consumed_none, consumed_trans}
+use Rattle.machine.proofs.AlwaysLaws.{after_map, consumed_none, consumed_trans}
 use Rattle.crc.specs.declared.Algorithm.{Algorithm}
 use Rattle.rules.specs.Search.{find, keep}
 use Rattle.rules.specs.Request.{raise, lose, arrive, act, step_by, reader, new}
-use Rattle.rules.specs.FindLaws.{found_fits}
-use Rattle.rules.specs.VerdictLaws.{Says}
-use Rattle.rules.specs.StepLaws.{step, verdict_step, step_shows, moved_shows, after_both}
+use Rattle.rules.proofs.FindLaws.{found_fits}
+use Rattle.rules.proofs.VerdictLaws.{Says}
+use Rattle.rules.proofs.StepLaws.{step, verdict_step, step_shows, moved_shows, after_both}
 use Rattle.rules.specs.declared.Stream.{Stream}
 use Rattle.rules.specs.declared.Loss.{Loss}
 use Rattle.rules.specs.declared.Loss.TheVariants.{Length, Check}
