@@ -1,6 +1,8 @@
 // Reports the units of a stream: `report [FILE [PIECE]]`. FILE is standard input where none is named; it is handed to the reader in pieces
 // of PIECE bytes, 65,536 where none is given, and the lines are the same for every PIECE. What goes wrong is said in a line on standard
 // error, and then there is no END line.
+#![tactic(auto)]
+
 ghost use Rattle.std.specs.Prelude.{◌≡◌, ◌≤◌, length};
 
 use crc::Algorithm;

@@ -1,4 +1,6 @@
 // The report of the commit's examples, whole and in pieces: document 01, "Cases by hand". Each report stands under a heading.
+#![tactic(auto)]
+
 use crc::Algorithm;
 use extract::{Extractor, Opened};
 use reporting::Reported;

@@ -7,7 +7,6 @@ use Rattle.extract.specs.Calls.{pushed_of, buffer_of}
 use Rattle.lines.specs.Gather.{gathered_of}
 use Rattle.lines.specs.declared.Ended.{Ended}
 use Rattle.lines.specs.declared.Ended.TheVariants.{Dry, Full}
-use Rattle.lines.specs.declared.Ended.TheVariants as Ended
 use Rattle.reporting.specs.declared.Reported.{Reported}
 use Rattle.reporting.specs.declared.Reported.TheVariants.{Went, Refused, Unwritten}
 

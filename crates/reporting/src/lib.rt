@@ -3,6 +3,8 @@
 //
 // What a write does is the C library's matter, and its contract says nothing of it. All else is determined: a call ends as the rules say, or with a
 // line that could not be written.
+#![tactic(auto)]
+
 ghost use Rattle.std.specs.Prelude.{◌≤◌, ◌<◌, ◌≡◌};
 ghost use Rattle.extract.specs.Calls.{buffer_of};
 ghost use Rattle.reporting.specs.Reports.{Written, wrote_of, piece_of};

@@ -1,5 +1,7 @@
 // Lines, words and numbers, read from a script and written for a report, for the programs. No part of document 01: what a program reads is turned here into slices and
 // numbers, and everything that matters happens in the proved libraries.
+#![tactic(auto)]
+
 ghost use Rattle.std.specs.Prelude.{◌≡◌, true, ◌+◌, ◌≤◌, min, length};
 ghost use Rattle.std.proofs.Math.Seq.{paste};
 ghost use Rattle.io.specs.Counts.{IsPrefixLen};
