@@ -9,7 +9,9 @@ ghost use Rattle.levels.specs.Questions.{buffered_of, peaks_of, peak_records_of,
 ghost use Rattle.window_exports.specs.Flat.{time_of, pushed_flat, restarted_flat, buffered_flat, peaks_flat, peak_records_flat, substream_peaks_flat, cap_flat};
 
 use levels::Contribution;
-use window_exports::{MvBuffered, MvCap, MvPeakRecords, MvPeaks, MvPushed, MvRestarted, MvSubstreamPeaks};
+use window_exports::{
+    MvBuffered, MvCap, MvPeakRecords, MvPeaks, MvPushed, MvRestarted, MvSubstreamPeaks,
+};
 use window_rules::Window;
 
 // A window that never held a unit.
