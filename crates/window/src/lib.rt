@@ -6,6 +6,8 @@
 //
 // The rules are in `window_rules`, with the types; what is asked of a window needs its levels alone (crate `levels`). The loop that drains
 // changes the levels alone, so no ring is copied in it.
+#![tactic(auto)]
+
 mod single; // one accumulator, one substream
 mod every; // all of them, and what one slot does to the levels
 mod slots; // the rings and the drain

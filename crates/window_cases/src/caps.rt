@@ -66,7 +66,7 @@ fn agreeing() -> u64 {
     let mut info: u8 = 255;
     loop {
         if agree(info) {
-            n = std::num::wrapping_add_u64(n, 1);
+            n = n.wrapping_add(1);
         }
         if info == 0 {
             return n;

@@ -1,5 +1,7 @@
 // Runs the depth window over scripts of steps and prints every report, depth, peak and count. Document 01, "Depth window (001)", P9,
 // numbers 1, 12 and 13, and the caps.
+#![tactic(auto)]
+
 mod text; // words and numbers in columns
 mod caps; // the caps, of every accumulator and info byte
 

@@ -1,8 +1,10 @@
 // Words and numbers on standard output, in columns.
 use levels::Answer;
 
+const STDOUT: i32 = 1;
+
 pub(crate) fn word(w: &[u8]) {
-    io::write_all(1, w);
+    io::write_all(STDOUT, w);
 }
 
 pub(crate) fn line() {
@@ -10,7 +12,7 @@ pub(crate) fn line() {
 }
 
 pub(crate) fn number(n: u64) {
-    io::print_decimal(1, n);
+    io::print_decimal(STDOUT, n);
 }
 
 // What is left of a text after its first k bytes.

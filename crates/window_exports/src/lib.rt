@@ -1,8 +1,11 @@
-// The depth window for C and for Rust: `rt staticlib window_exports`, include/mirvashen_window.h, bindings/rust. Document 01, "What must change shape",
-// carried over the C interface: the window by value, document 01's numbers, an underrun and a cap as a number beside a byte that says whether there is one.
+// The depth window as C and Rust call it: crate `window_exports_c` exports each of these calls under its name (include/mirvashen_window.h, bindings/rust).
+// Document 01, "What must change shape", carried over the C interface: the window by value, document 01's numbers, an underrun and a cap as a number
+// beside a byte that says whether there is one.
 //
 // Every bit pattern is taken: the record's fields are numbers, and one that doesn't fit is number 1. Each call is the library's call; only the small
 // parts of an answer are laid flat, so that the window goes through untouched.
+#![tactic(auto)]
+
 ghost use Rattle.std.specs.Prelude.{◌≡◌};
 ghost use Rattle.byte_caps.specs.Caps.{fba_cap_of, fbb_cap_of};
 ghost use Rattle.levels.specs.Numbers.{number_of};
@@ -131,16 +134,14 @@ fn cap_flat(c: Cap) -> MvCap
 }
 
 // A window that never held a unit.
-#[unsafe(no_mangle)]
-pub extern "C" fn mv_window_fresh() -> Window
+pub fn mv_window_fresh() -> Window
     ensures { result ≡ fresh_of }
 {
     window::fresh()
 }
 
 // Admits a unit and drains every slot that playback has strictly passed; numbers 1, 12 and 13.
-#[unsafe(no_mangle)]
-pub extern "C" fn mv_window_push(
+pub fn mv_window_push(
     window: Window,
     playhead: u64,
     removal: u64,
@@ -165,8 +166,7 @@ pub extern "C" fn mv_window_push(
 }
 
 // Drops every unit in flight and starts the window again, keeping the peaks; number 1.
-#[unsafe(no_mangle)]
-pub extern "C" fn mv_window_restart(window: Window) -> MvRestarted
+pub fn mv_window_restart(window: Window) -> MvRestarted
     ensures { result ≡ restarted_flat (restarted_of window) }
 {
     let restarted = window::restart(window);
@@ -179,8 +179,7 @@ pub extern "C" fn mv_window_restart(window: Window) -> MvRestarted
 }
 
 // Units held in the window; number 1.
-#[unsafe(no_mangle)]
-pub extern "C" fn mv_window_buffered(window: Window) -> MvBuffered
+pub fn mv_window_buffered(window: Window) -> MvBuffered
     ensures { result ≡ buffered_flat (buffered_of window.levels) }
 {
     let levels = window.levels;
@@ -193,8 +192,7 @@ pub extern "C" fn mv_window_buffered(window: Window) -> MvBuffered
 }
 
 // Deepest each accumulator has been over the stream; number 1.
-#[unsafe(no_mangle)]
-pub extern "C" fn mv_window_peaks(window: Window) -> MvPeaks
+pub fn mv_window_peaks(window: Window) -> MvPeaks
     ensures { result ≡ peaks_flat (peaks_of window.levels) }
 {
     let levels = window.levels;
@@ -208,8 +206,7 @@ pub extern "C" fn mv_window_peaks(window: Window) -> MvPeaks
 }
 
 // Deepest each accumulator has been, with the stream and overhead parts it held then; number 1.
-#[unsafe(no_mangle)]
-pub extern "C" fn mv_window_peak_records(window: Window) -> MvPeakRecords
+pub fn mv_window_peak_records(window: Window) -> MvPeakRecords
     ensures { result ≡ peak_records_flat (peak_records_of window.levels) }
 {
     let levels = window.levels;
@@ -223,8 +220,7 @@ pub extern "C" fn mv_window_peak_records(window: Window) -> MvPeakRecords
 }
 
 // Deepest each substream's own bytes have been, with no overhead priced in; number 1.
-#[unsafe(no_mangle)]
-pub extern "C" fn mv_window_substream_peaks(window: Window) -> MvSubstreamPeaks
+pub fn mv_window_substream_peaks(window: Window) -> MvSubstreamPeaks
     ensures { result ≡ substream_peaks_flat (substream_peaks_of window.levels) }
 {
     let levels = window.levels;
@@ -238,16 +234,14 @@ pub extern "C" fn mv_window_substream_peaks(window: Window) -> MvSubstreamPeaks
 }
 
 // Byte cap of an accumulator for FBA streams.
-#[unsafe(no_mangle)]
-pub extern "C" fn mv_fba_cap(accumulator: usize) -> MvCap
+pub fn mv_fba_cap(accumulator: usize) -> MvCap
     ensures { result ≡ cap_flat (fba_cap_of accumulator) }
 {
     cap_flat(fba_cap(accumulator))
 }
 
 // Byte cap of an accumulator for FBB streams, by the low nibble of `substream_info`.
-#[unsafe(no_mangle)]
-pub extern "C" fn mv_fbb_cap(accumulator: usize, substream_info: u8) -> MvCap
+pub fn mv_fbb_cap(accumulator: usize, substream_info: u8) -> MvCap
     ensures { result ≡ cap_flat (fbb_cap_of accumulator substream_info) }
 {
     cap_flat(fbb_cap(accumulator, substream_info))

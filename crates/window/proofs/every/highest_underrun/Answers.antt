@@ -1,12 +1,7 @@
 -- The loop tests from the top, so the first underrun it meets is the highest.
-use Prim.Native.Nat.{◌≤◌}
-use mathlib.Core.Path.{◌≡◌, refl}
-use Rattle.window_rules.specs.Index.{highest}
+use mathlib.Core.Path.{refl}
 use Rattle.window.proofs.Index.{highest_end, highest_stop, highest_on}
 use borrow.Author.Tests.{lt-ltb, le-ltb}
-use lib.Dec.{ltb}
-use lib.ListN.{get_or}
-use Rattle.levels.specs.Levels.{depth_at}
 use Rattle.window_rules.specs.Levels.{underrun_of}
 use Rattle.std.proofs.Common.{rules}
 use Rattle.window.proofs.every.highest_underrun.Goals as goal

@@ -1,9 +1,7 @@
 -- The loop tests from the top, so the first underrun it meets is the highest.
 use Prim.Native.Nat.{◌≤◌}
-use mathlib.Core.Path.{◌≡◌, refl}
+use mathlib.Core.Path.{◌≡◌}
 use Rattle.window_rules.specs.Index.{highest}
-use Rattle.window.proofs.Index.{highest_end, highest_stop, highest_on}
-use borrow.Author.Tests.{lt-ltb, le-ltb}
 use lib.Dec.{ltb}
 use lib.ListN.{get_or}
 use Rattle.levels.specs.Levels.{depth_at}

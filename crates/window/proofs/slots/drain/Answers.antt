@@ -1,7 +1,5 @@
 -- The whole drain is what is left to drain from here; each turn is one turn of the definition.
-use Prim.Native.Nat.{◌<◌}
-use mathlib.Core.Path.{◌≡◌, refl}
-use Rattle.window_rules.specs.Window.{drain_of}
+use mathlib.Core.Path.{refl}
 use Rattle.window.proofs.Turns.{drain_end, drain_stop, drain_under, drain_on, slot_read}
 use Rattle.std.proofs.Common.{rules}
 use Rattle.window.proofs.slots.drain.Goals as goal

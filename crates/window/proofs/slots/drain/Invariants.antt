@@ -1,8 +1,7 @@
 -- The whole drain is what is left to drain from here; each turn is one turn of the definition.
 use Prim.Native.Nat.{◌<◌}
-use mathlib.Core.Path.{◌≡◌, refl}
+use mathlib.Core.Path.{◌≡◌}
 use Rattle.window_rules.specs.Window.{drain_of}
-use Rattle.window.proofs.Turns.{drain_end, drain_stop, drain_under, drain_on, slot_read}
 use Rattle.window.proofs.slots.drain.Given as goal
 
 abbrev pub invariant-loop-left : goal.invariant-loop-left
