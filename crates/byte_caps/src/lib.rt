@@ -1,5 +1,7 @@
 // The byte caps of the depth window's accumulators, FBA and FBB: document 01, "Depth window (001)"; `Accumulator` of utils/fifo.rs in the Rust. Any
 // accumulator's number is taken: there are five, and of FBB two that are never checked.
+#![tactic(auto)]
+
 ghost use Rattle.std.specs.Prelude.{◌≡◌};
 ghost use Rattle.byte_caps.specs.Caps.{fbb_entry, fba_cap_of, fbb_cap_of};
 

@@ -1,4 +1,4 @@
-// The reader for C and for Rust: `rt staticlib exports`, include/mirvashen.h, bindings/rust. Document 01, "What must change shape", carried over the
+// The reader for C and for Rust: the calls of the archive `exports_c`, include/mirvashen.h, bindings/rust. Document 01, "What must change shape", carried over the
 // C interface: the record and the unit are words that the caller lends, the answer is document 01's number, and a unit is its start and length in
 // the lent buffer. Words are lent and not handed over by value, since a record in and out of each call costs more than a byte's work.
 //
@@ -128,8 +128,7 @@ fn asked_on(words: &mut [u64; 24], number: u32, e: Extractor)
 }
 
 // A new reader over a lent buffer, with any check setting; number 1 where the buffer's length doesn't fit.
-#[unsafe(no_mangle)]
-pub extern "C" fn mv_open(
+pub fn mv_open(
     reader: &mut [u64; 24],
     buffer: &[u8],
     poly: u16,
@@ -150,8 +149,7 @@ pub extern "C" fn mv_open(
 }
 
 // A piece behind the unread bytes; numbers 0 to 4.
-#[unsafe(no_mangle)]
-pub extern "C" fn mv_push_bytes(reader: &mut [u64; 24], buffer: &mut [u8], piece: &[u8]) -> u32
+pub fn mv_push_bytes(reader: &mut [u64; 24], buffer: &mut [u8], piece: &[u8]) -> u32
     ensures number { result ≡ push_number (pushed_of (reader_of reader.old) (length buffer.old) (length piece.now)).answer }
     ensures record { reader.new ≡ pushed_on reader.old (pushed_of (reader_of reader.old) (length buffer.old) (length piece.now)) }
     ensures holds { buffer.new ≡ buffer_of (reader_of reader.old) buffer.old piece.now }
@@ -161,8 +159,7 @@ pub extern "C" fn mv_push_bytes(reader: &mut [u64; 24], buffer: &mut [u8], piece
 }
 
 // One request: a unit as number 0, or numbers 1, 5, 6, 7, 8.
-#[unsafe(no_mangle)]
-pub extern "C" fn mv_next(reader: &mut [u64; 24], buffer: &[u8], unit: &mut [u64; 24]) -> u32
+pub fn mv_next(reader: &mut [u64; 24], buffer: &[u8], unit: &mut [u64; 24]) -> u32
     ensures number { result ≡ asked_number (asked_of (reader_of reader.old) buffer.now).answer }
     ensures record { reader.new ≡ asked_on reader.old (asked_number (asked_of (reader_of reader.old) buffer.now).answer) (asked_of (reader_of reader.old) buffer.now).extractor }
     ensures unit { unit.new ≡ asked_unit unit.old (asked_of (reader_of reader.old) buffer.now).answer }

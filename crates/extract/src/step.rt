@@ -179,7 +179,7 @@ fn act(s: Stream, before: usize, n: usize, v: Verdict) -> Stepped
 // Under the lock: the unit at the front.
 fn locked_step(s: Stream, u: &[u8]) -> Stepped
     requires fit { Fit s (length u.now) }
-    requires locked_value { s.locked ≡ true }
+    requires locked { s.locked ≡ true }
     ensures { StepsAs s u.now result }
 {
     let Judged::Given { eaten, verdict } = unit(s.substreams, u) else {
@@ -228,7 +228,7 @@ fn at_candidate(n: usize, s: Stream, u: &[u8]) -> Stepped
 // Without a lock: the first candidate, or dry with what has to be kept.
 fn search_step(s: Stream, u: &[u8]) -> Stepped
     requires fit { Fit s (length u.now) }
-    requires locked_value { s.locked ≡ false }
+    requires unlocked { s.locked ≡ false }
     ensures { StepsAs s u.now result }
 {
     let Found::At(n) = find(u) else {

@@ -2,6 +2,8 @@
 // record must be to fit (number 1), how much a unit may add (numbers 12 and 13), and what can be asked of a window.
 //
 // Nothing here knows where a unit in flight is kept, so a question takes the levels alone and not the rings.
+#![tactic(auto)]
+
 pub mod numbers; // the conditions of numbers 1, 12 and 13
 mod reads; // what is read out of levels that fit
 

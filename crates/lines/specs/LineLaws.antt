@@ -2,7 +2,7 @@
 use Rattle.std.specs.Prelude.{ℕ, zero, suc, ◌+◌, ◌/◌, ◌%◌, ◌^◌, ◌*◌, ◌≤◌, ◌<◌, ◌≡◌, refl, Bool, true, false, List, [], ◌∷◌, ◌++◌, ltb, length, take, drop}
 use Rattle.std.proofs.Common.{pow-suc, add-zero, arith, ltb-false, sym, ap, ap₂, ◌∙◌, append_assoc, length-append, drop-drop}
 use Rattle.std.proofs.Math.Seq.{paste, paste-zero, take-length}
-use Rattle.std.proofs.lemmas.List.Edits.{length_paste, take-paste, drop-paste}
+use Rattle.std.proofs.lemmas.List.Edits.{length-paste, take-paste, drop-paste}
 use Rattle.laws.specs.Pick.{pick}
 use Rattle.rules.specs.declared.Unit.{Unit as TheUnit}
 use Rattle.rules.specs.declared.Waiting.{Waiting}
@@ -14,7 +14,7 @@ use Rattle.lines.specs.Lines.{bad_text, end_text, kind_text, stamp_text, pair_li
 
 -- a word that has room
 pub length_put : (d : List ℕ) (at : ℕ) (w : List ℕ) → at + length w ≤ length d → length (put_of d at w) ≡ length d
-length_put d at w room = ap length (sym (put_room d w at room)) ∙ length_paste d at w (length w) room (omega arith)
+length_put d at w room = ap length (sym (put_room d w at room)) ∙ length-paste d at w (length w) room (omega arith)
 
 paste_joins : (d : List ℕ) (at : ℕ) (w v : List ℕ) → at + length w + length v ≤ length d
     → paste (paste d at w (length w)) (at + length w) v (length v) ≡ paste d at (w ++ v) (length (w ++ v))

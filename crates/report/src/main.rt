@@ -5,9 +5,16 @@ ghost use Rattle.std.specs.Prelude.{◌≡◌, ◌≤◌, length};
 
 use crc::Algorithm;
 use extract::{Extractor, Opened};
-use libc::{STDERR_FILENO, STDIN_FILENO, STDOUT_FILENO};
 use reporting::Reported;
+use std::env::FillError;
+use std::fs::File;
+use std::io::{Error, Read};
+use std::rt::Env;
 use text::Number;
+
+const STDOUT: i32 = 1;
+
+const STDERR: i32 = 2;
 
 // The lent buffer is as long as a reader takes; a piece and the 8,189 bytes that a dry reader may hold fit in it.
 const MOST: u64 = 1040000;
@@ -21,7 +28,7 @@ enum Taken {
 }
 
 fn complain(s: &[u8]) {
-    io::write_all(STDERR_FILENO, s);
+    io::write_all(STDERR, s);
 }
 
 fn complain_of(before: &[u8], name: &[u8], after: &[u8]) {
@@ -31,17 +38,21 @@ fn complain_of(before: &[u8], name: &[u8], after: &[u8]) {
 }
 
 // Says why a call of the system failed on a file.
-fn complain_of_file(doing: &[u8], name: &[u8], advice: &[u8]) {
+fn complain_of_file(rt: &HostRuntime, doing: &[u8], name: &[u8], advice: &[u8], error: Error) {
     complain_of(b"report: cannot ", doing, b" '");
-    complain(name);
-    os::fail(advice);
+    complain_of(name, advice, b": ");
+    // Where standard error takes no words there is nobody to tell.
+    match rt.eprintln(error) {
+        Ok(()) => {}
+        Err(_) => {}
+    }
 }
 
 // Says why the report of a file ended early.
 fn complain_of_report(name: &[u8], reported: Reported) {
     match reported {
-        Reported::Unwritten => os::fail(
-            b"report: cannot write to standard output; give it a place with room",
+        Reported::Unwritten => complain(
+            b"report: cannot write to standard output; give it a place with room\n",
         ),
         Reported::Refused(number) => {
             complain_of(
@@ -49,7 +60,7 @@ fn complain_of_report(name: &[u8], reported: Reported) {
                 name,
                 b"': the reader refused a piece by number ",
             );
-            io::print_decimal(STDERR_FILENO, number as u64);
+            io::print_decimal(STDERR, number as u64);
             complain(b"; cut the stream below 2^48 bytes\n");
         }
         Reported::Went(_) => {}
@@ -57,24 +68,32 @@ fn complain_of_report(name: &[u8], reported: Reported) {
 }
 
 // Reads a piece, and writes its lines.
-fn take_piece(
-    fd: i32,
+fn take_piece<R: Read>(
+    rt: &HostRuntime,
+    source: &mut R,
     name: &[u8],
     reader: Extractor,
     buf: &mut [u8],
     piece: &mut [u8],
     out: &mut [u8; 65536],
 ) -> Taken {
-    let got = libc::read(fd, piece);
-    if got < 0 {
-        complain_of_file(b"read", name, b"'; name a file or a pipe that can be read");
-        return Taken::Failed;
-    }
-    if got == 0 {
+    let n = match source.read(piece) {
+        Ok(n) => n,
+        Err(e) => {
+            complain_of_file(
+                rt,
+                b"read",
+                name,
+                b"'; name a file or a pipe that can be read",
+                e,
+            );
+            return Taken::Failed;
+        }
+    };
+    if n == 0 {
         return Taken::Over(reader);
     }
-    let n = io::count(got, piece);
-    let reported = reporting::report_piece(reader, buf, &piece[..n], out, STDOUT_FILENO);
+    let reported = reporting::report_piece(reader, buf, &piece[..n], out, STDOUT);
     let Reported::Went(next) = reported else {
         complain_of_report(name, reported);
         return Taken::Failed;
@@ -83,8 +102,9 @@ fn take_piece(
 }
 
 // Nothing says that a file ends, so the turns are counted down from a number that no run uses up.
-fn take_all(
-    fd: i32,
+fn take_all<R: Read>(
+    rt: &HostRuntime,
+    source: &mut R,
     name: &[u8],
     reader: Extractor,
     buf: &mut [u8],
@@ -94,12 +114,12 @@ fn take_all(
     let mut reader = reader;
     let mut left = u64::MAX;
     while left > 0 {
-        match take_piece(fd, name, reader, buf, piece, out) {
+        match take_piece(rt, source, name, reader, buf, piece, out) {
             Taken::On(next) => {
                 reader = next;
             }
             Taken::Over(last) => {
-                let reported = reporting::report_end(last, out, STDOUT_FILENO);
+                let reported = reporting::report_end(last, out, STDOUT);
                 complain_of_report(name, reported);
                 return;
             }
@@ -119,29 +139,44 @@ fn lent_buffer() -> [u8; 1048576]
 }
 
 // The report of an open file, in pieces of a size.
-fn report(fd: i32, name: &[u8], size: usize)
+fn report<R: Read>(rt: &HostRuntime, source: &mut R, name: &[u8], size: usize)
     requires { size ≤ 1048576 }
 {
     let mut buf = lent_buffer();
     let mut piece = lent_buffer();
     let mut out = io::large_buffer();
     match Extractor::open(&buf, Algorithm::major_sync_info()) {
-        Opened::Open(reader) => take_all(fd, name, reader, &mut buf, &mut piece[..size], &mut out),
+        Opened::Open(reader) => {
+            take_all(
+                rt,
+                source,
+                name,
+                reader,
+                &mut buf,
+                &mut piece[..size],
+                &mut out,
+            )
+        }
         Opened::Refused => complain(b"report: the reader refused its buffer\n"),
     }
 }
 
 // The report of a file by its name.
-fn report_file(name: &[u8], size: usize)
+fn report_file(rt: &HostRuntime, name: &[u8], size: usize)
     requires { size ≤ 1048576 }
 {
-    let fd = os::open_read(name);
-    if fd < 0 {
-        complain_of_file(b"open", name, b"'; name a file that can be read");
+    let Ok(path) = str::from_utf8(name) else {
+        complain_of(
+            b"report: cannot open '",
+            name,
+            b"'; name a file that can be read: the name is no UTF-8 text\n",
+        );
         return;
+    };
+    match File::open(rt, path) {
+        Ok(mut file) => report(rt, &mut file, name, size),
+        Err(e) => complain_of_file(rt, b"open", name, b"'; name a file that can be read", e),
     }
-    report(fd, name, size);
-    libc::close(fd);
 }
 
 // The size that a word gives; 0 where it gives none.
@@ -155,40 +190,52 @@ fn size_of(word: &[u8]) -> usize
 }
 
 // The report of a file, in pieces of the size that the second argument gives.
-fn report_in_pieces(name: &[u8]) {
-    let mut word = io::buffer();
-    let n = os::arg(2, &mut word);
-    let size = size_of(&word[..n]);
+fn report_in_pieces(rt: &HostRuntime, name: &[u8], word: &[u8]) {
+    let size = size_of(word);
     if size == 0 {
         complain_of(
             b"report: '",
-            &word[..n],
+            word,
             b"' is no PIECE: give a number from 1 to 1040000\n",
         );
         return;
     }
-    report_file(name, size);
+    report_file(rt, name, size);
 }
 
-fn main() {
-    let mut path = io::buffer();
-    let count = os::arg_count();
-    if count < 2 {
-        report(STDIN_FILENO, b"standard input", 65536);
-        return;
+// Is there an argument of this number?
+fn is_given(rt: &HostRuntime, i: usize) -> bool {
+    match rt.arg(i, &mut [0; 1]) {
+        Ok(_) => true,
+        Err(FillError::TooLong) => true,
+        Err(FillError::NotPresent) => false,
     }
-    if 3 < count {
+}
+
+// The report of a file that is named, in pieces of the size that is given.
+fn report_named(rt: &HostRuntime, name: &[u8]) {
+    let mut word = io::buffer();
+    match rt.arg(2, &mut word) {
+        Ok(n) => report_in_pieces(rt, name, &word[..n]),
+        Err(FillError::TooLong) => report_in_pieces(rt, name, b""),
+        Err(FillError::NotPresent) => report_file(rt, name, 65536),
+    }
+}
+
+fn main(rt: HostRuntime) {
+    if is_given(&rt, 3) {
         complain(b"report: too many words: report [FILE [PIECE]]\n");
         return;
     }
-    let n = os::arg(1, &mut path);
-    if os::errno() != 0 {
-        os::fail(b"report: the file's name; give a shorter one");
-        return;
-    }
-    if count == 2 {
-        report_file(&path[..n], 65536);
-    } else {
-        report_in_pieces(&path[..n]);
+    let mut path = io::buffer();
+    match rt.arg(1, &mut path) {
+        Ok(n) => report_named(&rt, &path[..n]),
+        Err(FillError::TooLong) => {
+            complain(b"report: the file's name; give a shorter one: File name too long\n")
+        }
+        Err(FillError::NotPresent) => {
+            let mut input = rt.stdin();
+            report(&rt, &mut input, b"standard input", 65536);
+        }
     }
 }

@@ -1,11 +1,12 @@
 // The report of the commit's examples, whole and in pieces: document 01, "Cases by hand". Each report stands under a heading.
 use crc::Algorithm;
 use extract::{Extractor, Opened};
-use libc::STDOUT_FILENO;
 use reporting::Reported;
 
+const STDOUT: i32 = 1;
+
 fn say(s: &[u8]) {
-    io::write_all(STDOUT_FILENO, s);
+    io::write_all(STDOUT, s);
 }
 
 // The report of bytes in pieces of a size, by a new reader.
@@ -16,17 +17,17 @@ fn report(bytes: &[u8], size: usize) {
         say(b"the reader refused its buffer\n");
         return;
     };
-    let reported = reporting::report_bytes(reader, &mut buf, bytes, size, &mut out, STDOUT_FILENO);
+    let reported = reporting::report_bytes(reader, &mut buf, bytes, size, &mut out, STDOUT);
     if let Reported::Refused(number) = reported {
         say(b"refused by number ");
-        io::print_decimal(STDOUT_FILENO, number as u64);
+        io::print_decimal(STDOUT, number as u64);
         say(b"\n");
     }
 }
 
 fn in_pieces(bytes: &[u8], size: usize) {
     say(b"# EXAMPLE_DATA in pieces of ");
-    io::print_decimal(STDOUT_FILENO, size as u64);
+    io::print_decimal(STDOUT, size as u64);
     say(b"\n");
     report(bytes, size);
 }

@@ -4,6 +4,8 @@
 // A unit's output timing has 16 bits and wraps. The field carries what stands above them, spelled a bit a unit, so that a whole field and the
 // output timing of the unit it began in give a position of 32 bits. A record goes in by value and comes back with the answer. Unit number,
 // samples and output timing are kept and compared as they come, 64 bits wide; they are reduced modulo 2^32 where a field ends, by `low`.
+#![tactic(auto)]
+
 ghost use Rattle.std.specs.Prelude.{◌≡◌, ◌+◌, ◌*◌, ◌%◌, ◌^◌, ◌<◌, ◌≤◌};
 ghost use Rattle.timing.specs.Timing.{fresh_of, updated_of, reset_of};
 ghost use Rattle.timing.specs.Timing.{state0_of, states1to4_of, state5_of, states6to10_of, states11to15_of, field_end_of};

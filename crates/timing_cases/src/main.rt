@@ -1,5 +1,7 @@
 // Cases of start timing, run bit by bit; each line is a unit, its answer and the record after it. Document 01, "Start timing (002)" and "Cases by
 // hand". A field of a script is 1, the bits of its timing with a 1 after every four zeros in a row, and 1 00000.
+#![tactic(auto)]
+
 mod run;
 mod show;
 

@@ -1,13 +1,14 @@
 // Printing: one step a line, the answer first and the record after it.
-use libc::STDOUT_FILENO;
 use timing::{Answer, Field, HiresOutputTimingState, HiresTimingFault, Updated};
 
+const STDOUT: i32 = 1;
+
 pub(crate) fn say(text: &[u8]) {
-    io::write_all(STDOUT_FILENO, text);
+    io::write_all(STDOUT, text);
 }
 
 fn number(n: u64) {
-    io::print_decimal(STDOUT_FILENO, n);
+    io::print_decimal(STDOUT, n);
 }
 
 // The last n of some blanks, or none where there are not so many.

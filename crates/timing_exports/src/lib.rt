@@ -1,8 +1,10 @@
-// Start timing for C and for Rust: `rt staticlib timing_exports`, include/mirvashen_timing.h, bindings/rust/src/timing.rs. The record is lent as
-// fourteen words and not passed by value, since a step changes little of it: a caller keeps it where it stands.
+// Start timing for C and for Rust: include/mirvashen_timing.h, bindings/rust/src/timing.rs. timing_exports_c exports these functions under the same
+// names. The record is lent as fourteen words and not passed by value, since a step changes little of it: a caller keeps it where it stands.
 //
 // Every bit pattern is taken. The words are the record's numbers as they are, however wide: a state word above 15, a counter word above 3 or a
 // bit count word above 65,535 is number 1, and then no word is written. A fault code above 4 says that there is no fault.
+#![tactic(auto)]
+
 ghost use Rattle.std.specs.Prelude.{◌≡◌, true};
 ghost use Rattle.timing.specs.Timing.{fresh_of, updated_of, reset_of, fits_of};
 ghost use Rattle.timing.specs.Numbers.{number_of};
@@ -150,16 +152,14 @@ fn answer_flat(a: Answer) -> MvTimingAnswer
 }
 
 // A fresh record; what the words held is not looked at.
-#[unsafe(no_mangle)]
-pub extern "C" fn mv_timing_fresh(timing: &mut [u64; 14])
+pub fn mv_timing_fresh(timing: &mut [u64; 14])
     ensures { timing.new ≡ words_of fresh_of }
 {
     *timing = words_of(HiresOutputTimingState::fresh());
 }
 
 // Feeds one unit's bit, any byte but zero for one; number 1 where the record doesn't fit.
-#[unsafe(no_mangle)]
-pub extern "C" fn mv_timing_update(
+pub fn mv_timing_update(
     timing: &mut [u64; 14],
     unit: u64,
     samples: u64,
@@ -193,8 +193,7 @@ pub extern "C" fn mv_timing_update(
 }
 
 // At a branch the bits begin anew; number 1 where the record doesn't fit, else 0.
-#[unsafe(no_mangle)]
-pub extern "C" fn mv_timing_reset_for_branch(timing: &mut [u64; 14]) -> u32
+pub fn mv_timing_reset_for_branch(timing: &mut [u64; 14]) -> u32
     ensures answer { result ≡ number_of (reset_of (record_of timing.old)).answer }
     ensures holds { timing.new ≡ left_by timing.old (reset_of (record_of timing.old)) }
 {

@@ -24,7 +24,7 @@ use Rattle.window_rules.specs.declared.Window.{Window}
 use Rattle.window_rules.specs.declared.Restarted.{Restarted}
 use Rattle.levels.specs.declared.Answer.TheVariants.{Accepted, RecordDoesNotFit, ContributionTooLarge, DepthTooLarge}
 use Rattle.levels.specs.NumberLaws.{write_of_fit}
-use Rattle.window_rules.specs.KeepLaws.{drain_room, drain_write}
+use Rattle.window_rules.proofs.KeepLaws.{drain_room, drain_write}
 
 pub emptied_five : (depth : List Depth) {a b c d e : Depth} → a ≡ emptied_of (depth_at depth 0) → b ≡ emptied_of (depth_at depth 1) → c ≡ emptied_of (depth_at depth 2)
     → d ≡ emptied_of (depth_at depth 3) → e ≡ emptied_of (depth_at depth 4) → a ∷ b ∷ c ∷ d ∷ e ∷ [] ≡ emptied_depths_of depth

@@ -5,6 +5,4 @@ pub mod Levels
 pub mod Rings
 pub mod Window
 pub mod History
-pub mod KeepLaws
-pub mod AlwaysLaws
-pub mod StrictLaws
+pub mod Always

@@ -3,6 +3,8 @@
 //
 // The window has two parts. The rings hold the units in flight, a slot each; the levels are the small rest: slot numbers, depths and peaks (crate
 // `levels`).
+#![tactic(auto)]
+
 use levels::{Answer, Levels};
 
 // A ring for each accumulator, of its bytes or of their stream part.

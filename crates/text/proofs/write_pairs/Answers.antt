@@ -1,0 +1,16 @@
+-- `text::write_pairs` writes one byte a turn; the invariant says how far it has come.
+use mathlib.Core.Path.{refl}
+use lib.ListN.{length-set}
+use Rattle.laws.specs.Writes.{written_none}
+use Rattle.text.proofs.Pairs.{pair_written, pairs_written}
+use Rattle.std.proofs.Common.{rules}
+use Rattle.text.proofs.write_pairs.Goals as goal
+
+pub loop-i-init : goal.loop-i-init
+loop-i-init c = (written_none _ _ _, search rules, refl)
+
+pub loop-i-preserved : goal.loop-i-preserved
+loop-i-preserved c = (search (rules, pair_written), search rules, simp length-set (search rules))
+
+pub returns : goal.returns
+returns c = search (rules, pairs_written)
