@@ -163,7 +163,8 @@ fn report<R: Read>(rt: &HostRuntime, source: &mut R, name: &[u8], size: usize)
     }
 }
 
-// The report of a file by its name.
+// The report of a file by its name. A name is bytes to the system, and text to what opens it here: a file whose name is no UTF-8 text goes in
+// through standard input.
 fn report_file(rt: &HostRuntime, name: &[u8], size: usize)
     requires { size ≤ 1048576 }
 {
