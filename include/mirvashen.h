@@ -1,6 +1,6 @@
 /* Mirvashen's reader for C: access units of a TrueHD/MLP stream, every loss counted.
  *
- * Link target/staticlib/libexports.a (`rt staticlib exports`; x86-64 Linux). The library has no state, allocates nothing and calls nothing: the
+ * Link target/staticlib/libexports.a (`bindings/archives` writes it; x86-64 Linux). The library has no state, allocates nothing and calls nothing: the
  * record, the unit and the buffer are yours and lent for one call, and the answer is document 01's number. Each call is proved equal to the
  * rules for every record and all bytes (crates/exports/specs).
  *

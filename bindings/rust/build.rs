@@ -1,5 +1,5 @@
-//! Links the proved static libraries: target/staticlib/libNAME.a of the repository (`rt staticlib NAME`), or those in the folder that MIRVASHEN_LIB
-//! names.
+//! Links the proved static libraries: target/staticlib/libNAME.a of the repository (`bindings/archives` writes them), or those in the folder that
+//! MIRVASHEN_LIB names.
 use std::path::PathBuf;
 
 fn main() {
@@ -13,7 +13,7 @@ fn main() {
         let archive = folder.join(format!("lib{name}.a"));
         println!("cargo:rerun-if-changed={}", archive.display());
         if !archive.is_file() {
-            println!("cargo:warning=no {}: run `rt staticlib {name}` at the repository's root, or name its folder in MIRVASHEN_LIB", archive.display());
+            println!("cargo:warning=no {}: run bindings/archives at the repository's root, or name its folder in MIRVASHEN_LIB", archive.display());
         }
         println!("cargo:rustc-link-lib=static={name}");
     }
