@@ -26,6 +26,7 @@ fn fbb_entry(nibble: usize, last: u64) -> u64
 }
 
 // Byte cap of an accumulator for FBA streams: 15,000 bytes for each channel of the presentation that its decoder reconstructs.
+#[tactic(auto, unfolding(crate::specs::Caps::fba_cap_of))]
 pub fn fba_cap(accumulator: usize) -> Cap
     ensures { result ≡ fba_cap_of accumulator }
 {

@@ -10,7 +10,7 @@ pub returns-in-1 : goal.returns-in-1
 returns-in-1 c = fbb_stream _ _ c.in-1.is (search rules)
 
 pub returns-in-2 : goal.returns-in-2
-returns-in-2 c = fbb_none _ _ c.in-2.in_default-own.rest (search rules)
+returns-in-2 c = search (rules, fbb_none)
 
 pub returns-in_default : goal.returns-in_default
-returns-in_default c = fbb_beyond _ _ c.in_default.in_default-own.rest (search rules)
+returns-in_default c = search (rules, fbb_beyond)
