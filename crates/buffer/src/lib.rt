@@ -1,5 +1,7 @@
 // The lent buffer, which document 01 adds to the Rust ("Numbers the desk will see", number 4 and the sentences below the table): where a piece
 // goes, and the part that holds a unit. It knows nothing of a reader: the unread bytes are any stretch, and any stretch is taken.
+#![tactic(auto)]
+
 ghost use Rattle.std.specs.Prelude.{◌≡◌, ◌++◌, ◌+◌, ◌-◌, ◌≤◌, length, drop};
 ghost use Rattle.laws.specs.Parts.{part};
 ghost use Rattle.machine.specs.Lent.{paste};

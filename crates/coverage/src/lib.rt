@@ -3,6 +3,8 @@
 //
 // A byte is covered where a unit handed out has it, or the timestamp that the unit carries. The units are taken one by one as they are handed out, and
 // nothing is kept of them but three numbers.
+#![tactic(auto)]
+
 ghost use Rattle.std.specs.Prelude.{◌≡◌, ◌+◌};
 ghost use Rattle.coverage.specs.Coverage.{capped, nothing_yet, begin_of, passed_of, covered_of};
 

@@ -1,5 +1,7 @@
 // The major sync check: document 01, "The check"; utils/crc.rs in the Rust, its 16-bit part. The register goes over the message bit by
 // bit, for every polynomial, every start and both closings; nothing is refused.
+#![tactic(auto)]
+
 ghost use Rattle.std.specs.Prelude.{◌≡◌, ◌<◌};
 ghost use Rattle.crc.specs.Crc.{bit_step, update_of, closed_of, check_of, byte_bits, run, major_sync};
 

@@ -8,6 +8,8 @@
 // The words of a unit; the timestamp stands first, as in a record:
 //    0 present  1 hours  2 minutes  3 seconds  4 frames  5 samples  6 reserved1  7 framerate  8 reserved2  9 dropframe
 //   10 start  11 length  12 index  13 position  14 major  15 substreams  16 actual  17 minimum
+#![tactic(auto)]
+
 ghost use Rattle.std.specs.Prelude.{◌≡◌, ◌≤◌, length};
 ghost use Rattle.extract.specs.Calls.{opened_of, pushed_of, buffer_of, asked_of};
 ghost use Rattle.record_words.specs.Words.{setting_of, reader_of, left_on, reader_on};
@@ -128,13 +130,7 @@ fn asked_on(words: &mut [u64; 24], number: u32, e: Extractor)
 }
 
 // A new reader over a lent buffer, with any check setting; number 1 where the buffer's length doesn't fit.
-pub fn mv_open(
-    reader: &mut [u64; 24],
-    buffer: &[u8],
-    poly: u16,
-    init: u16,
-    zeros: u8,
-) -> u32
+pub fn mv_open(reader: &mut [u64; 24], buffer: &[u8], poly: u16, init: u16, zeros: u8) -> u32
     ensures number { result ≡ opened_number (opened_of (length buffer.now) (setting_of poly init zeros)) }
     ensures record { reader.new ≡ opened_on reader.old (opened_of (length buffer.now) (setting_of poly init zeros)) }
 {

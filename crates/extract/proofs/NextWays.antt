@@ -9,7 +9,6 @@ use borrow.Author.Tests.{eq-eqb, ne_eqb}
 use Rattle.laws.specs.Parts.{part, drop_part}
 use Rattle.machine.specs.Step.{speak, Below}
 use Rattle.machine.specs.Always.{AfterStep}
-use Rattle.machine.specs.Scan as Scan
 use Rattle.machine.specs.Scan.{request}
 use Rattle.machine.proofs.ScanLaws.{request_dry, request_quiet, request_speak}
 use Rattle.rules.specs.declared.Stream.{Stream}

@@ -1,6 +1,8 @@
 // The reader: document 01, "Search", "A request" and numbers 1 to 8; process/extract.rs in the Rust, its pool, `Arc` and fail levels left out.
 // The record goes in and comes back by value, the bytes lie in a buffer that the caller lends, and a unit is handed out as a part of it (crate
 // buffer).
+#![tactic(auto)]
+
 ghost use Rattle.std.specs.Prelude.{◌≡◌, ◌+◌, ◌<◌, leb, eqb, length};
 ghost use Rattle.machine.specs.Scan.{request as requestOf};
 ghost use Rattle.rules.specs.Request.{reader};

@@ -1,5 +1,7 @@
 // The kinds of number that document 01 says must not be mixed: where a byte stands in a stream, and when a sample is played. Each is a tuple
 // struct of its own, so a caller who swaps two of them is refused before anything runs.
+#![tactic(auto)]
+
 ghost use Rattle.std.specs.Prelude.{◌≡◌};
 ghost use Rattle.kinds.specs.Kinds.{passed_of};
 

@@ -16,7 +16,6 @@ use Rattle.lines.specs.Lines.{bad_text, pair_line_words, unit_words, puts}
 use Rattle.lines.proofs.Ways.{Puts}
 use Rattle.lines.specs.Gather.{words_of, heard_of, Gathering, sheet, ends, gathers}
 use Rattle.lines.specs.declared.Heard.{Heard}
-use Rattle.lines.specs.declared.Heard.TheVariants as Heard
 use Rattle.lines.specs.declared.Ended.{Ended}
 use Rattle.lines.specs.declared.Ended.TheVariants.{Dry, Full, Refused}
 use Rattle.lines.specs.declared.Gathered.{Gathered}

@@ -2,3 +2,4 @@
 mod Ways
 mod GatherWays
 pub mod One
+pub mod ReportLaws

@@ -9,7 +9,6 @@ use Rattle.extract.specs.Calls.{asked_of}
 use Rattle.lines.specs.Lines.{bad_text, end_text, pair_line_words, unit_words, Sheet, puts}
 use Rattle.lines.specs.declared.Gathered.{Gathered}
 use Rattle.lines.specs.declared.Heard.{Heard}
-use Rattle.lines.specs.declared.Heard.TheVariants as Heard
 use Rattle.lines.specs.declared.Ended.{Ended}
 use Rattle.lines.specs.declared.Ended.TheVariants.{Dry, Full, Refused}
 

@@ -3,6 +3,8 @@
 //
 // Nothing is read or written here: the lines are put into a lent slice. So what is said of a stream is proved, each line whole and none left
 // out, and the crate `reporting` only hands the bytes on.
+#![tactic(auto)]
+
 ghost use Rattle.std.specs.Prelude.{◌≤◌, ◌≡◌, [], ◌∷◌, leb};
 ghost use Rattle.lines.specs.Lines.{puts, pair_words, pair_line_words, kind_text, stamp_text, unit_words};
 ghost use Rattle.lines.specs.Gather.{words_of, heard_of, gathered_of, end_of};

@@ -7,6 +7,8 @@
 // The words of a record; the timestamp stands first:
 //    0 present  1 hours  2 minutes  3 seconds  4 frames  5 samples  6 reserved1  7 framerate  8 reserved2  9 dropframe
 //   10 start  11 end  12 accepted  13 unanswered  14 consumed  15 frames  16 errors  17 substreams  18 locked  19 seen  20 poly  21 init  22 zeros
+#![tactic(auto)]
+
 ghost use Rattle.std.specs.Prelude.{◌≡◌, ◌≤◌};
 ghost use Rattle.laws.specs.Flags.{yes_of, flag_of};
 ghost use Rattle.record_words.specs.Words.{up_to, rate_code, stamp_of, waiting_of, stamp_words, stamp_on, check_of, stream_of, reader_of, left_on, reader_on};

@@ -1,5 +1,7 @@
 // The rules of the reader as data and definitions: document 01, "Search" and "A request". What a stream's state, a unit, a loss and a verdict are;
 // specs/ has the rules over them, and what is proved of the rules alone. No code.
+#![tactic(auto)]
+
 use crc::Algorithm;
 use kinds::BytePosition;
 use timestamp::Timestamp;

@@ -1,5 +1,7 @@
 // The timestamp that may stand before a stream's first unit: document 01, "Timestamp (003)"; structs/timestamp.rs in the Rust, its
 // printing and its trace lines left out. Any slice is taken: too short is number 9, wrong sync bytes 10, a digit that is none 11.
+#![tactic(auto)]
+
 ghost use Rattle.std.specs.Prelude.{◌≡◌, ◌+◌, ◌≤◌, ◌<◌, length};
 ghost use Rattle.laws.specs.Words.{word as word_of, word_at};
 ghost use Rattle.timestamp.specs.Timestamp.{bcd_of, rate_of, stamp_of, fields_of, parse_of, number_of};

@@ -1,9 +1,9 @@
 -- `buffer::to_front` moves one byte a turn; the invariant says how far it has come.
-use Prim.Native.Nat.{◌-◌, ◌≤◌}
+use Prim.Native.Nat.{◌-◌}
 use native.Mathlib.Omega.{arith}
-use mathlib.Core.Path.{◌≡◌, refl}
-use lib.ListN.{length, length-set}
-use Rattle.buffer.proofs.Copies.{moved, moved_none, moved_more, moved_whole}
+use mathlib.Core.Path.{refl}
+use lib.ListN.{length-set}
+use Rattle.buffer.proofs.Copies.{moved_none, moved_more, moved_whole}
 use Rattle.std.proofs.Common.{rules}
 use Rattle.buffer.proofs.to_front.Goals as goal
 

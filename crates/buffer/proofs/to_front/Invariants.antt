@@ -1,9 +1,8 @@
 -- `buffer::to_front` moves one byte a turn; the invariant says how far it has come.
 use Prim.Native.Nat.{◌-◌, ◌≤◌}
-use native.Mathlib.Omega.{arith}
-use mathlib.Core.Path.{◌≡◌, refl}
-use lib.ListN.{length, length-set}
-use Rattle.buffer.proofs.Copies.{moved, moved_none, moved_more, moved_whole}
+use mathlib.Core.Path.{◌≡◌}
+use lib.ListN.{length}
+use Rattle.buffer.proofs.Copies.{moved}
 use Rattle.buffer.proofs.to_front.Given as goal
 
 abbrev pub invariant-loop-i : goal.invariant-loop-i

@@ -1,8 +1,7 @@
 -- `buffer::write_at` writes one byte a turn; the invariant says how far it has come.
-use Prim.Native.Nat.{◌-◌, ◌≤◌}
-use mathlib.Core.Path.{◌≡◌, refl}
-use lib.ListN.{length, length-set}
-use Rattle.laws.specs.Writes.{written, written_none, written_more}
+use mathlib.Core.Path.{refl}
+use lib.ListN.{length-set}
+use Rattle.laws.specs.Writes.{written_none, written_more}
 use Rattle.buffer.proofs.Copies.{write_whole}
 use Rattle.std.proofs.Common.{rules}
 use Rattle.buffer.proofs.write_at.Goals as goal

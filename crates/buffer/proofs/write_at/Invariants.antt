@@ -1,9 +1,8 @@
 -- `buffer::write_at` writes one byte a turn; the invariant says how far it has come.
 use Prim.Native.Nat.{◌-◌, ◌≤◌}
-use mathlib.Core.Path.{◌≡◌, refl}
-use lib.ListN.{length, length-set}
-use Rattle.laws.specs.Writes.{written, written_none, written_more}
-use Rattle.buffer.proofs.Copies.{write_whole}
+use mathlib.Core.Path.{◌≡◌}
+use lib.ListN.{length}
+use Rattle.laws.specs.Writes.{written}
 use Rattle.buffer.proofs.write_at.Given as goal
 
 abbrev pub invariant-loop-i : goal.invariant-loop-i

@@ -4,7 +4,6 @@ use Prim.Native.Nat.{ℕ, ◌*◌, ◌%◌}
 use native.Mathlib.Omega.{arith}
 use mathlib.Core.Path.{◌≡◌}
 use Rattle.crc.specs.Crc.{bit_step}
-use Rattle.std.proofs.Common.{rules}
 use Rattle.crc.proofs.bit.Goals as goal
 
 doubled : (r : ℕ) → (r * 2) % 65536 ≡ r % 32768 * 2

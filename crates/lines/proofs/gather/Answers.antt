@@ -1,6 +1,5 @@
 -- The lines so far are put, and what the whole comes to is what is left to gather.
-use mathlib.Core.Path.{◌≡◌, refl}
-use Rattle.lines.specs.Gather.{sheet, gathers}
+use mathlib.Core.Path.{refl}
 use Rattle.lines.proofs.GatherWays.{gather_spent, gather_full, gather_dry, gather_refused, gather_on}
 use Rattle.std.proofs.Common.{rules}
 use Rattle.lines.proofs.gather.Goals as goal

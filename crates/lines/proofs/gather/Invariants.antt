@@ -1,7 +1,6 @@
 -- The lines so far are put, and what the whole comes to is what is left to gather.
-use mathlib.Core.Path.{◌≡◌, refl}
+use mathlib.Core.Path.{◌≡◌}
 use Rattle.lines.specs.Gather.{sheet, gathers}
-use Rattle.lines.proofs.GatherWays.{gather_spent, gather_full, gather_dry, gather_refused, gather_on}
 use Rattle.lines.proofs.gather.Given as goal
 
 abbrev pub invariant-loop-turns : goal.invariant-loop-turns

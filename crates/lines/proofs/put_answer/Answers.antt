@@ -1,6 +1,5 @@
 -- An answer puts its words: each arm is its own.
 use Rattle.lines.proofs.GatherWays.{puts_unit, puts_short, puts_failed, puts_dry, puts_quiet, puts_refused}
-use Rattle.std.proofs.Common.{rules}
 use Rattle.lines.proofs.put_answer.Goals as goal
 
 pub returns-in-Unit : goal.returns-in-Unit

@@ -2,7 +2,6 @@
 use mathlib.Core.List.{[], ◌∷◌}
 use Rattle.lines.specs.Lines.{line_end, pair_words}
 use Rattle.lines.proofs.Ways.{one, then_puts}
-use Rattle.std.proofs.Common.{rules}
 use Rattle.lines.proofs.put_pair_line.Goals as goal
 
 pub returns : goal.returns

@@ -1,7 +1,6 @@
 -- `lines::put_stamp` puts one word, by whether a timestamp waits.
 use Rattle.rules.specs.declared.Waiting.TheVariants.{Nothing}
 use Rattle.lines.proofs.Ways.{stamp_put}
-use Rattle.std.proofs.Common.{rules}
 use Rattle.lines.proofs.put_stamp.Goals as goal
 
 pub returns-in-Stamp : goal.returns-in-Stamp

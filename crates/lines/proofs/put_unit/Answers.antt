@@ -3,7 +3,6 @@ use mathlib.Core.List.{[], ◌∷◌}
 use Rattle.text.specs.Put.{decimal_of}
 use Rattle.lines.specs.Lines.{au_text, space, pair_words, kind_text, stamp_text}
 use Rattle.lines.proofs.Ways.{one, then_puts}
-use Rattle.std.proofs.Common.{rules}
 use Rattle.lines.proofs.put_unit.Goals as goal
 
 pub returns : goal.returns

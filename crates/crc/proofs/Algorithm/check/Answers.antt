@@ -1,6 +1,5 @@
 -- `Algorithm::check` is the rule's check: the update from the start, then the closing.
 use Rattle.crc.specs.Laws.{check_closed}
-use Rattle.std.proofs.Common.{rules}
 use Rattle.crc.proofs.Algorithm.check.Goals as goal
 
 pub returns : goal.returns

@@ -1,7 +1,6 @@
 -- `Algorithm::closed` is the run over the closing bits: sixteen zero bits are two zero bytes.
 use Rattle.crc.specs.Crc.{run}
 use Rattle.crc.specs.Laws.{closing_bytes}
-use Rattle.std.proofs.Common.{rules}
 use Rattle.crc.proofs.Algorithm.closed.Goals as goal
 
 pub returns-then-zeros : goal.returns-then-zeros

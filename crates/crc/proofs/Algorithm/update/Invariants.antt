@@ -1,14 +1,10 @@
 -- `Algorithm::update` is the run over the message's bits. The loop's invariant: the run over the whole from the register at entry is the run
 -- over what is left from the register now.
-use Prim.Native.Nat.{ℕ, suc, ◌+◌, ◌-◌, ◌≤◌, ◌<◌}
-use native.Mathlib.Numerals.{add-one}
-use native.Mathlib.Omega.{arith}
-use mathlib.Core.Path.{◌≡◌, refl, sym, ap, ◌∙◌}
+use Prim.Native.Nat.{ℕ, ◌-◌, ◌≤◌}
+use mathlib.Core.Path.{◌≡◌}
 use mathlib.Core.List.{List}
-use lib.ListN.{length, get_or, drop}
-use lib.Seq.{drop-cons, drop-length}
-use Rattle.crc.specs.Crc.{run, byte_bits, bits_of}
-use Rattle.crc.specs.Laws.{bits_cons, bits_none, run_append}
+use lib.ListN.{length, drop}
+use Rattle.crc.specs.Crc.{run, bits_of}
 use Rattle.crc.proofs.Algorithm.update.Given as goal
 
 -- the run over what is left from place i on

@@ -1,6 +1,5 @@
 -- `Extractor::next` tests number 1 first, then whether anything is unanswered.
 use Rattle.extract.proofs.NextWays.{asks_not, asks_fit, asks_nothing, asks_on, some_unanswered}
-use Rattle.std.proofs.Common.{rules}
 use Rattle.extract.proofs.Extractor.next.Goals as goal
 
 pub returns-else-fits : goal.returns-else-fits

@@ -1,7 +1,6 @@
 -- `Extractor::request` is the rules' request. The invariant: it will answer what it would have answered at its beginning; a quiet step makes the rules' size less.
-use native.Mathlib.Omega.{arith}
 use Rattle.rules.specs.Request.{size_of}
-use Rattle.extract.proofs.NextWays.{Going, between, going_begins, step_fit, stays_inside, going_on, going_less, ends_dry, handed_before, ends_handed, ends_short, ends_failed}
+use Rattle.extract.proofs.NextWays.{Going, between}
 use Rattle.extract.proofs.Extractor.request.Given as goal
 
 abbrev pub invariant-request : goal.invariant-request

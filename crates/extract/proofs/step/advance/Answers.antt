@@ -1,6 +1,5 @@
 -- `step::advance` is the rule; `kept` says what still waits.
 
-use Rattle.std.proofs.Common.{rules}
 use Rattle.extract.proofs.step.advance.Goals as goal
 
 pub returns : goal.returns

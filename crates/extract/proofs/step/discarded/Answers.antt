@@ -1,6 +1,5 @@
 -- `step::discarded` keeps 7 or 23.
 
-use Rattle.std.proofs.Common.{rules}
 use Rattle.extract.proofs.step.discarded.Goals as goal
 
 pub returns-then-seen : goal.returns-then-seen

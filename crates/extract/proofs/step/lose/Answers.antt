@@ -1,6 +1,5 @@
 -- `step::lose` is the rule; `raise` counts the loss, and `kept` says what still waits.
 
-use Rattle.std.proofs.Common.{rules}
 use Rattle.extract.proofs.step.lose.Goals as goal
 
 pub returns : goal.returns

@@ -1,9 +1,4 @@
 -- `search::find` looks at one place a turn. The invariant: the first of all places is the first of those that are left.
-use Prim.Native.Nat.{◌+◌, ◌-◌, ◌≤◌}
-use mathlib.Core.Path.{◌≡◌}
-use lib.ListN.{length}
-use Rattle.laws.specs.First.{first_from}
-use Rattle.rules.specs.Search.{candidate_at, find as findIn}
 use Rattle.judging.proofs.SearchWays.{find_begins, find_short, none_left, found_here, found_later}
 use Rattle.std.proofs.Common.{rules}
 use Rattle.judging.proofs.search.find.Goals as goal

@@ -4,7 +4,6 @@ use mathlib.Core.Path.{◌≡◌}
 use lib.ListN.{length}
 use Rattle.laws.specs.First.{first_from}
 use Rattle.rules.specs.Search.{candidate_at, find as findIn}
-use Rattle.judging.proofs.SearchWays.{find_begins, find_short, none_left, found_here, found_later}
 use Rattle.judging.proofs.search.find.Given as goal
 
 abbrev pub invariant-loop-i : goal.invariant-loop-i

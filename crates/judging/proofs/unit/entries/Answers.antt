@@ -1,9 +1,6 @@
 -- `unit::entries` takes one entry a turn. The invariant: what the rule asks of all entries it asks of those that are left.
-use Prim.Native.Nat.{◌+◌, ◌*◌, ◌≤◌}
 use native.Mathlib.Omega.{arith}
-use mathlib.Core.Path.{◌≡◌, refl}
-use Rattle.machine.specs.Ask.{ask}
-use Rattle.rules.specs.Request.{directory}
+use mathlib.Core.Path.{refl}
 use Rattle.judging.proofs.UnitWays.{no_entries_left, entry_cut, entry_of_two, long_entry_cut, entry_of_four}
 use Rattle.std.proofs.Common.{rules}
 use Rattle.judging.proofs.unit.entries.Goals as goal
@@ -21,9 +18,9 @@ returns-then-u-at-2 c = search (rules, long_entry_cut)
 pub loop-left-preserved : goal.loop-left-preserved
 loop-left-preserved c =
     elim c.if-a-lt128.branch [
-      then-a-lt128 w ↦ (rw (w.at-is, w.parity-is) (entry_of_two _ _ _ _ c.loop-left.invariant.0 (omega arith) (omega arith) (omega arith)), omega arith, omega arith)
+      | then-a-lt128 w ↦ (rw (w.at-is, w.parity-is) (entry_of_two _ _ _ _ c.loop-left.invariant.0 (omega arith) (omega arith) (omega arith)), omega arith, omega arith)
       | else-a-lt128+else-u-at-2 w ↦
-        (rw (w.at-is, w.parity-is) (entry_of_four _ _ _ _ c.loop-left.invariant.0 (omega arith) (omega arith) (omega arith) (omega arith)), omega arith, omega arith)
+          (rw (w.at-is, w.parity-is) (entry_of_four _ _ _ _ c.loop-left.invariant.0 (omega arith) (omega arith) (omega arith) (omega arith)), omega arith, omega arith)
     ]
 
 pub returns : goal.returns

@@ -1,11 +1,8 @@
 -- `unit::entries` takes one entry a turn. The invariant: what the rule asks of all entries it asks of those that are left.
 use Prim.Native.Nat.{◌+◌, ◌*◌, ◌≤◌}
-use native.Mathlib.Omega.{arith}
-use mathlib.Core.Path.{◌≡◌, refl}
-use mathlib.Core.Logic.{⊎_elim}
+use mathlib.Core.Path.{◌≡◌}
 use Rattle.machine.specs.Ask.{ask}
 use Rattle.rules.specs.Request.{directory}
-use Rattle.judging.proofs.UnitWays.{no_entries_left, entry_cut, entry_of_two, long_entry_cut, entry_of_four}
 use Rattle.judging.proofs.unit.entries.Given as goal
 
 abbrev pub invariant-loop-left : goal.invariant-loop-left

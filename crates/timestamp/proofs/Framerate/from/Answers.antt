@@ -1,7 +1,6 @@
 -- `Framerate::from` goes by the rule's own codes.
 use borrow.Author.Tests.{ne_eqb}
 use Rattle.timestamp.specs.Timestamp.{rate_of}
-use Rattle.std.proofs.Common.{rules}
 use Rattle.timestamp.proofs.Framerate.from.Goals as goal
 
 pub returns-in-1 : goal.returns-in-1

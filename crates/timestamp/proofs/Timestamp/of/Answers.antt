@@ -1,6 +1,5 @@
 -- `Timestamp::of` takes the flag word apart as the rule does.
 use Rattle.timestamp.specs.Timestamp.{stamp_of}
-use Rattle.std.proofs.Common.{rules}
 use Rattle.timestamp.proofs.Timestamp.of.Goals as goal
 
 pub returns : goal.returns

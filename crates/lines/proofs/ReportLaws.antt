@@ -40,7 +40,6 @@ use Rattle.lines.specs.Gather.{words_of, heard_of, by_heard, Gathering, sheet, w
 use Rattle.lines.specs.LineLaws.{length_put, puts_whole, unit_short, pair_short, end_whole}
 use Rattle.lines.specs.Report.{event_words, line_of, text_of, is_dry, Runs, opens, accepts, writes}
 use Rattle.lines.specs.declared.Heard.{Heard}
-use Rattle.lines.specs.declared.Heard.TheVariants as Heard
 use Rattle.lines.specs.declared.Ended.{Ended}
 use Rattle.lines.specs.declared.Ended.TheVariants.{Dry, Full, Refused}
 
