@@ -1,6 +1,6 @@
 /* Mirvashen's start timing for C: one bit a unit, from which a decoder learns where in time a TrueHD/MLP stream begins.
  *
- * Link crates/timing_exports_c/out/libtiming_exports_c.a (`rt lib` in crates/timing_exports_c; x86-64 Linux). The library has no state, allocates
+ * Link target/staticlib/libtiming_exports.a (`bindings/archives` writes it; x86-64 Linux). The library has no state, allocates
  * nothing and calls nothing. Each call is proved equal to document 01's rules for every record (crates/timing_exports/specs).
  *
  * THE RECORD IS LENT: fourteen words, yours to keep, copy and compare. A call reads them and writes the record afterwards in their place. Any bit

@@ -1,6 +1,6 @@
 /* Mirvashen's depth window for C: how many bytes a TrueHD/MLP decoder has to hold while units arrive and are played out.
  *
- * Link crates/window_exports_c/out/libwindow_exports_c.a (`rt lib` in that crate; x86-64 Linux). The library has no state, allocates nothing and calls
+ * Link target/staticlib/libwindow_exports.a (`bindings/archives` writes it; x86-64 Linux). The library has no state, allocates nothing and calls
  * memcpy and memset alone: a window goes in by value, and comes back in the answer with document 01's number. Each call is proved equal to the
  * rules for every window and every number (crates/window_exports/specs).
  *
