@@ -19,9 +19,10 @@ use Rattle.rules.specs.Request.{Event, handed, too_short, failed, arrive, act, l
 use Rattle.rules.proofs.RulesLaws.{reader_laws}
 use Rattle.rules.proofs.StepLaws.{step, step_shows}
 use Rattle.rules.proofs.VerdictLaws.{Says}
-use Rattle.rules.proofs.FitLaws.{at, raise_errors}
+use Rattle.rules.specs.States.{at, Standing}
+use Rattle.rules.proofs.FitLaws.{raise_errors}
 use Rattle.rules.specs.Units.{IfUnit, Follows, Promised}
-use Rattle.rules.proofs.StampLaws.{Standing, standing_lasts}
+use Rattle.rules.proofs.StampLaws.{standing_lasts}
 use Rattle.rules.proofs.HandedLaws.{fresh_units_stand, fresh_units_apart, new_stands}
 use Rattle.rules.specs.declared.Waiting.{Waiting}
 use Rattle.rules.specs.declared.Waiting.TheVariants.{Nothing, Stamp}

@@ -15,7 +15,8 @@ use Rattle.rules.specs.declared.Stream.{Stream}
 use Rattle.rules.specs.declared.Unit.{Unit as TheUnit}
 use Rattle.rules.specs.Request.{Event, handed, too_short, failed, step_by, size_of, reader}
 use Rattle.rules.proofs.RulesLaws.{reader_laws}
-use Rattle.rules.proofs.FitLaws.{Fit, fit_step}
+use Rattle.rules.specs.States.{Fit}
+use Rattle.rules.proofs.FitLaws.{fit_step}
 use Rattle.extract.specs.declared.Extractor.{Extractor}
 use Rattle.extract.specs.declared.Answer.TheVariants.{Unit as AUnit, InvalidAccessUnitLength, ParityCheckFailed, InsufficientData, Quiet as AQuiet, Record}
 use Rattle.extract.specs.declared.Asked.{Asked}

@@ -21,7 +21,7 @@ use Rattle.machine.proofs.AskLaws.{decide_fits, decide_all}
 use Rattle.rules.proofs.VerdictLaws.{candidate_all, unit_all}
 use Rattle.rules.proofs.StepLaws.{step_locked, step_searching}
 use Rattle.rules.proofs.FindLaws.{found_fits}
-use Rattle.rules.proofs.FitLaws.{Fit}
+use Rattle.rules.specs.States.{Fit}
 use Rattle.extract.specs.declared.step.Outcome.TheVariants.{Dry, Quiet, Handed, TooShort, Failed as CheckFailed}
 use Rattle.extract.specs.declared.step.Stepped.{Stepped}
 use Rattle.judging.specs.declared.search.Found.{Found}

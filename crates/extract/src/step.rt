@@ -3,7 +3,7 @@
 ghost use Rattle.std.specs.Prelude.{◌≡◌, ◌+◌, ◌-◌, ◌≤◌, ◌<◌, length, true, false};
 ghost use Rattle.rules.specs.Request.{raise as raiseOf, advance as advanceOf, lose as loseOf, lock as lockOf, pass_on, unit_of};
 ghost use Rattle.rules.specs.Search.{keep};
-ghost use Rattle.rules.proofs.FitLaws.{Fit};
+ghost use Rattle.rules.specs.States.{Fit};
 ghost use Rattle.extract.specs.Steps.{Roomy, Ready, arrived_of, verdict_of, StepsAs, FoundIn};
 
 use judging::search::{Found, Judged, candidate, find, kept, stamp_at};

@@ -28,7 +28,8 @@ use Rattle.rules.specs.Search.{find}
 use Rattle.laws.specs.First.{first_from}
 use Rattle.rules.proofs.StepLaws.{step_shows}
 use Rattle.rules.proofs.RulesLaws.{reader_laws}
-use Rattle.rules.proofs.FitLaws.{Fit, fit_step, at, reader_counts}
+use Rattle.rules.specs.States.{Fit, at}
+use Rattle.rules.proofs.FitLaws.{fit_step, reader_counts}
 use Rattle.buffer.specs.Laws.{start_inside}
 use Rattle.extract.specs.declared.Extractor.{Extractor}
 use Rattle.extract.specs.declared.PushAnswer.{PushAnswer}

@@ -18,7 +18,8 @@ use Rattle.rules.specs.declared.Stream.{Stream}
 use Rattle.rules.specs.declared.Unit.{Unit as TheUnit}
 use Rattle.rules.specs.Request.{Event, handed, too_short, failed, reader}
 use Rattle.rules.proofs.RulesLaws.{reader_laws}
-use Rattle.rules.proofs.FitLaws.{at, reader_counts}
+use Rattle.rules.specs.States.{at}
+use Rattle.rules.proofs.FitLaws.{reader_counts}
 use Rattle.rules.specs.Units.{IfUnit, Hands}
 use Rattle.rules.proofs.OutcomeLaws.{step_hands}
 use Rattle.buffer.specs.Calls.{part_of}

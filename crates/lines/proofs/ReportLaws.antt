@@ -22,7 +22,8 @@ use Rattle.rules.specs.declared.Stream.{Stream}
 use Rattle.rules.specs.Request.{Event, handed, too_short, failed, reader, new, fresh_scan}
 use Rattle.rules.proofs.RulesLaws.{reader_laws}
 use Rattle.rules.specs.Units.{IfUnit}
-use Rattle.rules.proofs.HandedLaws.{Passed, units_apart, new_stands}
+use Rattle.rules.specs.States.{Passed}
+use Rattle.rules.proofs.HandedLaws.{units_apart, new_stands}
 use Rattle.extract.specs.declared.Extractor.{Extractor}
 use Rattle.extract.specs.declared.Asked.{Asked as Answered}
 use Rattle.extract.specs.declared.Answer.{Answer}

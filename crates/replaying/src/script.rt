@@ -83,7 +83,7 @@ fn filled(have: usize, more: usize, closed: bool) -> Place {
     }
 }
 
-// One read, behind what is left over. Where nothing more arrives, what is left over is a line too.
+// Reads on, behind what is left over. Where nothing more arrives, what is left over is a line too.
 fn read_on(input: &mut [u8], p: Place) -> Place {
     let have = keep_rest(input, p.used, p.have);
     if input.len() <= have {
@@ -101,7 +101,7 @@ fn read_on(input: &mut [u8], p: Place) -> Place {
     filled(have, more, false)
 }
 
-// The next line, or one read.
+// The next line, or more of the script.
 pub(crate) fn next_line(input: &mut [u8], p: Place) -> Place {
     let end = text::line_end(buffer::part(input, 0, p.have), p.used);
     if end < p.have {

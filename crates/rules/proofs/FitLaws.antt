@@ -10,6 +10,7 @@ use Rattle.machine.proofs.AlwaysLaws.{after_map, consumed_none, consumed_trans}
 use Rattle.crc.specs.declared.Algorithm.{Algorithm}
 use Rattle.rules.specs.Search.{find, keep}
 use Rattle.rules.specs.Request.{raise, lose, arrive, act, step_by, reader, new}
+use Rattle.rules.specs.States.{Fit, at, Sound}
 use Rattle.rules.proofs.FindLaws.{found_fits}
 use Rattle.rules.proofs.VerdictLaws.{Says}
 use Rattle.rules.proofs.StepLaws.{step, verdict_step, step_shows, moved_shows, after_both}
@@ -19,14 +20,6 @@ use Rattle.rules.specs.declared.Loss.TheVariants.{Length, Check}
 use Rattle.rules.specs.declared.Losses.{Losses}
 use Rattle.rules.specs.declared.Verdict.{Verdict}
 use Rattle.rules.specs.declared.Verdict.TheVariants.{Lock, Lost, Short, Failed, Whole}
-
--- "accepted total .. above 2^48; frames plus errors above consumed; .. substream count above 15; locked though no sync was ever seen":
--- none of these, with n bytes unread.
-pub record Fit (s : Stream) (n : ℕ) : Type 0 where
-  pub total : s.consumed.0 + n ≤ 281474976710656
-  pub counted : s.frames + s.losses.errors ≤ s.consumed.0
-  pub few : s.substreams ≤ 15
-  pub seen : s.locked ≡ true → s.seen ≡ true
 
 -- A loss raises the error count by one.
 pub raise_errors : (w : Loss) (l : Losses) → (raise w l).errors ≡ l.errors + 1
@@ -39,9 +32,6 @@ unfolding act
 quiet_loss_loses w s n bs = refl
 
 -- 1. Every step consumes bytes at the front, and counts them.
-
-abbrev pub at : Stream → ℕ
-at s = s.consumed.0
 
 act_consumes : (w : Verdict) (M : ℕ) (s : Stream) (n : ℕ) (bs : List ℕ) → Says s.locked M n w → at (goal (act s w n bs)) ≡ at s + n
 unfolding act
@@ -83,12 +73,6 @@ consumed_plus_unread_stays s u =
     omega arith) (step s u) (reader_counts s u)
 
 -- 2. Every step keeps the stream's own conditions, whatever the bytes ..
-
--- what Fit says of the stream alone
-pub record Sound (s : Stream) : Type 0 where
-  pub counted : s.frames + s.losses.errors ≤ s.consumed.0
-  pub few : s.substreams ≤ 15
-  pub seen : s.locked ≡ true → s.seen ≡ true
 
 lose_sound : (w : Loss) (s : Stream) (n : ℕ) → 1 ≤ n → Sound s → Sound (lose w n s)
 lose_sound w s n l h =

@@ -1,6 +1,6 @@
 -- Every unit handed out, in every history and every fresh scan: it stands among the accepted bytes, its timestamp stands ahead of it, units don't
 -- overlap, and they are numbered one by one.
-use Rattle.std.specs.Prelude.{◌≡◌, refl, List, [], ◌∷◌, ◌++◌, ℕ, suc, ◌+◌, ◌-◌, ◌≤◌, ◌<◌, take, drop}
+use Rattle.std.specs.Prelude.{◌≡◌, refl, List, [], ◌∷◌, ◌++◌, ℕ, suc, ◌+◌, ◌-◌, ◌≤◌, take, drop}
 use Rattle.std.proofs.Common.{sym, ap, ◌∙◌, subst, arith, zero-add, length-append}
 use Rattle.std.proofs.lemmas.Bool.{false≢true}
 use Rattle.laws.specs.Parts.{part, part_further}
@@ -12,10 +12,10 @@ use Rattle.timestamp.specs.declared.Timestamp.{Timestamp}
 use Rattle.rules.specs.Request.{arrive, Event, handed, too_short, failed, act, reader, new, fresh_scan}
 use Rattle.rules.proofs.RulesLaws.{reader_laws}
 use Rattle.rules.proofs.StepLaws.{step, verdict_step, step_shows, moved_shows}
-use Rattle.rules.proofs.FitLaws.{at}
+use Rattle.rules.specs.States.{at, Standing, Passed, Numbers}
 use Rattle.rules.specs.Units.{Stands, Hands, IfUnit, Follows, Carries, Stamped, Promised, Indexed, units_in}
 use Rattle.rules.proofs.OutcomeLaws.{step_hands}
-use Rattle.rules.proofs.StampLaws.{nothing_waits, Standing, standing_lasts}
+use Rattle.rules.proofs.StampLaws.{nothing_waits, standing_lasts}
 use Rattle.rules.specs.declared.Waiting.TheVariants.{Stamp as Waits}
 use Rattle.rules.specs.declared.Stream.{Stream}
 use Rattle.rules.specs.declared.Unit.{Unit as TheUnit}
@@ -95,10 +95,6 @@ step_goes_on s u =
       judges = λ e n f r g k l d. verdict_goes_on s (arrive n u s) (drop n u) g (omega arith, omega arith);
     })
 
--- the stream has passed the unit
-abbrev pub Passed : Stream → TheUnit → Type 0
-Passed s x = (x.position.0 + x.length ≤ at s) × (x.index < s.frames)
-
 pub units_apart : Lasts reader (λ a es s u. Standing a s u × Every (IfUnit (Passed s)) es × Ordered (λ d e. IfUnit (λ x. IfUnit (Follows x) e) d) es)
 units_apart =
     ordered_lasts reader (λ a es s u. Standing a s u) standing_lasts (λ d e. IfUnit (λ x. IfUnit (Follows x) e) d) (λ d s. IfUnit (Passed s) d)
@@ -134,9 +130,6 @@ indexed_snoc k [] e h g = subst (λ j. Indexed j (e ∷ [])) (omega arith) g
 indexed_snoc k (handed x ∷ es) e h g = (h.0, indexed_snoc (suc k) es e h.1 (subst (λ j. Indexed j (e ∷ [])) (omega arith) g))
 indexed_snoc k (too_short a m p ∷ es) e h g = indexed_snoc k es e h g
 indexed_snoc k (failed p ∷ es) e h g = indexed_snoc k es e h g
-
-abbrev pub Numbers : List Event → Stream → Type 0
-Numbers es s = (s.frames ≡ units_in es) × Indexed 0 es
 
 verdict_numbers : (es : List Event) (s : Stream) (w : Verdict) (n : ℕ) (bs v : List ℕ) → Numbers es s → AfterStep (λ fs s' u'. Numbers fs s') es (moved (act s w n bs) v)
 unfolding act moved

@@ -18,7 +18,8 @@ use Rattle.rules.specs.Request.{advance, lose, arrive, lock, act, reader}
 use Rattle.rules.proofs.VerdictLaws.{Says}
 use Rattle.rules.proofs.RulesLaws.{stamp_read}
 use Rattle.rules.proofs.StepLaws.{step, verdict_step, step_shows, moved_shows, after_both}
-use Rattle.rules.proofs.FitLaws.{at, reader_counts}
+use Rattle.rules.specs.States.{at, Standing}
+use Rattle.rules.proofs.FitLaws.{reader_counts}
 use Rattle.rules.specs.Units.{Ahead, Stamped}
 use Rattle.rules.specs.declared.Waiting.{Waiting}
 use Rattle.rules.specs.declared.Waiting.TheVariants.{Nothing, Stamp as Waits}
@@ -113,9 +114,6 @@ module _ (a : List ℕ) where
       })
 
 -- 3. At all times.
-
-abbrev pub Standing : List ℕ → Stream → List ℕ → Type 0
-Standing a s u = Placed at a s u × Stamped a s
 
 stamped_grows : (a p : List ℕ) (s : Stream) (u : List ℕ) → Placed at a s u → Stamped a s → Stamped (a ++ p) s
 stamped_grows a p s u q h =

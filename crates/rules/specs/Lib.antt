@@ -2,4 +2,5 @@
 pub mod Search
 pub mod Request
 pub mod Units
+pub mod States
 pub mod Verdicts
