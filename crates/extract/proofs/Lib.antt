@@ -1,5 +1,5 @@
 pub mod One
-mod Ways
+pub mod Ways
 mod PushWays
 mod StepWays
 mod NextWays

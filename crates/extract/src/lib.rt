@@ -112,6 +112,7 @@ fn room_fits(n: usize) -> bool
 
 impl Extractor {
     // Number 1, the record's own part: it needs no buffer.
+    #[tactic(auto, using(crate::proofs::Ways::start_past_end, crate::proofs::Ways::miscounted, crate::proofs::Ways::past_the_total, crate::proofs::Ways::overcounted, crate::proofs::Ways::too_many_pushes, crate::proofs::Ways::too_many_substreams))]
     pub fn record_fits(self) -> bool
         ensures { result ≡ record_fits self }
     {

@@ -10,11 +10,8 @@ use lib.Seq.{drop-cons, drop-length}
 use Rattle.crc.specs.Crc.{run, byte_bits, bits_of}
 use Rattle.crc.specs.Laws.{bits_cons, bits_none, run_append}
 use Rattle.std.proofs.Common.{rules}
+use Rattle.crc.proofs.Algorithm.update.Invariants.{rest}
 use Rattle.crc.proofs.Algorithm.update.Goals as goal
-
--- the run over what is left from place i on
-abbrev rest : ℕ → ℕ → List ℕ → ℕ → ℕ
-rest poly crc s i = run poly crc (bits_of (drop i s))
 
 module _ (poly first crc : ℕ) (s : List ℕ) (i : ℕ) (same : run poly first (bits_of s) ≡ rest poly crc s i) where
   one_more : i < length s → {crc' : ℕ} → crc' ≡ run poly crc (byte_bits (get_or s i 0)) → run poly first (bits_of s) ≡ rest poly crc' s (i + 1)

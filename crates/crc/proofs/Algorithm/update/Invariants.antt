@@ -8,7 +8,7 @@ use Rattle.crc.specs.Crc.{run, bits_of}
 use Rattle.crc.proofs.Algorithm.update.Given as goal
 
 -- the run over what is left from place i on
-abbrev rest : ℕ → ℕ → List ℕ → ℕ → ℕ
+abbrev pub rest : ℕ → ℕ → List ℕ → ℕ → ℕ
 rest poly crc s i = run poly crc (bits_of (drop i s))
 
 abbrev pub invariant-loop-i : goal.invariant-loop-i

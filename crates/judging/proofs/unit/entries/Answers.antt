@@ -4,7 +4,6 @@ use mathlib.Core.Path.{refl}
 use Rattle.judging.proofs.UnitWays.{no_entries_left, entry_cut, entry_of_two, long_entry_cut, entry_of_four}
 use Rattle.std.proofs.Common.{rules}
 use Rattle.judging.proofs.unit.entries.Goals as goal
-use Rattle.judging.proofs.unit.entries.Goals.{then-a-lt128, else-a-lt128+else-u-at-2}
 
 pub loop-left-init : goal.loop-left-init
 loop-left-init c = (refl, omega arith, omega arith)
@@ -16,12 +15,7 @@ pub returns-then-u-at-2 : goal.returns-then-u-at-2
 returns-then-u-at-2 c = search (rules, long_entry_cut)
 
 pub loop-left-preserved : goal.loop-left-preserved
-loop-left-preserved c =
-    elim c.if-a-lt128.branch [
-      | then-a-lt128 w ↦ (rw (w.at-is, w.parity-is) (entry_of_two _ _ _ _ c.loop-left.invariant.0 (omega arith) (omega arith) (omega arith)), omega arith, omega arith)
-      | else-a-lt128+else-u-at-2 w ↦
-          (rw (w.at-is, w.parity-is) (entry_of_four _ _ _ _ c.loop-left.invariant.0 (omega arith) (omega arith) (omega arith) (omega arith)), omega arith, omega arith)
-    ]
+loop-left-preserved c = grind (arith, entry_of_two, entry_of_four)
 
 pub returns : goal.returns
 returns c = search (rules, no_entries_left)
