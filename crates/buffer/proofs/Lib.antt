@@ -1,4 +1,3 @@
--- Copying byte by byte, and that each call has one answer.
+-- Stretches of a buffer, and that each call has one answer.
 pub mod One
-mod Copies
-mod Ways
+pub mod Ways

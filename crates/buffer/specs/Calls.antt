@@ -1,10 +1,8 @@
 -- What the calls on a lent buffer answer, and what they leave in it: definitions only. The unread bytes are those from start to end.
-use Rattle.std.specs.Prelude.{ℕ, ◌+◌, ◌-◌, Bool, ◌&&◌, List, [], ◌++◌, leb, length}
+use Rattle.std.specs.Prelude.{ℕ, ◌+◌, ◌-◌, Bool, ◌&&◌, List, [], ◌++◌, leb, length, None, Option, Some}
 use Rattle.laws.specs.Pick.{pick}
 use Rattle.laws.specs.Parts.{part}
 use Rattle.machine.specs.Lent.{paste}
-use Rattle.buffer.specs.declared.Placed.{Placed}
-use Rattle.buffer.specs.declared.Placed.TheVariants.{At, NoRoom}
 
 -- A PIECE of k bytes behind the unread bytes of a buffer of n
 
@@ -16,17 +14,17 @@ room_for start end n k = leb start end && (leb end n && leb (end - start + k) n)
 unfoldable pub start_of : ℕ → ℕ → ℕ → ℕ → ℕ
 start_of start end n k = pick (leb (end + k) n) start 0
 
-unfoldable pub placed_of : ℕ → ℕ → ℕ → ℕ → Placed
-placed_of start end n k = pick (room_for start end n k) (At (start_of start end n k)) NoRoom
+unfoldable pub placed_of : ℕ → ℕ → ℕ → ℕ → Option ℕ
+placed_of start end n k = pick (room_for start end n k) (Some (start_of start end n k)) None
 
 -- the unread bytes and the piece at a place, and "Bytes outside the new unread stretch keep what they held"
 abbrev pub filled : ℕ → ℕ → List ℕ → List ℕ → ℕ → List ℕ
 filled start end buf piece at = paste buf at (part buf start (end - start) ++ piece)
 
 -- what the buffer holds after an answer: without room it is as it was
-abbrev pub afterwards : ℕ → ℕ → List ℕ → List ℕ → Placed → List ℕ
-afterwards start end buf piece (At at) = filled start end buf piece at
-afterwards start end buf piece NoRoom = buf
+abbrev pub afterwards : ℕ → ℕ → List ℕ → List ℕ → Option ℕ → List ℕ
+afterwards start end buf piece (Some at) = filled start end buf piece at
+afterwards start end buf piece None = buf
 
 unfoldable pub held_of : ℕ → ℕ → List ℕ → List ℕ → List ℕ
 held_of start end buf piece = afterwards start end buf piece (placed_of start end (length buf) (length piece))

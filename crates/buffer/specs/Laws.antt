@@ -1,25 +1,23 @@
 -- What an answer of `place` tells of the lengths.
-use Rattle.std.specs.Prelude.{ℕ, ◌+◌, ◌-◌, ◌≤◌, ◌≡◌, refl, Bool, true, false, leb}
+use Rattle.std.specs.Prelude.{ℕ, ◌+◌, ◌-◌, ◌≤◌, ◌≡◌, refl, Bool, true, false, leb, None, Option, Some}
 use Rattle.std.proofs.Common.{arith, sym, ◌∙◌}
 use borrow.Author.Tests.{leb-true, le-leb}
 use Rattle.laws.specs.Pick.{pick, pick_holds}
-use Rattle.buffer.specs.declared.Placed.{Placed}
-use Rattle.buffer.specs.declared.Placed.TheVariants.{At, NoRoom}
 use Rattle.buffer.specs.Calls.{room_for, start_of, placed_of}
 
 -- the answer tells the test
-answered_at : (t : Bool) (s : ℕ) {at : ℕ} → pick t (At s) NoRoom ≡ At at → (t ≡ true) × (at ≡ s)
+answered_at : (t : Bool) (s : ℕ) {at : ℕ} → pick t (Some s) None ≡ Some at → (t ≡ true) × (at ≡ s)
 answered_at true s e = (refl, cc)
 answered_at false s e = (cc, cc)
 
-answered_not : (t : Bool) (s : ℕ) → pick t (At s) NoRoom ≡ NoRoom → t ≡ false
+answered_not : (t : Bool) (s : ℕ) → pick t (Some s) None ≡ None → t ≡ false
 answered_not true s e = cc
 answered_not false s e = refl
 
 -- for unread bytes that stand in the buffer
 module _ (start end n k : ℕ) (order : start ≤ end) (inside : end ≤ n) where
   -- number 4 alone is tested
-  pub placed_by_room : placed_of start end n k ≡ pick (leb (end - start + k) n) (At (start_of start end n k)) NoRoom
+  pub placed_by_room : placed_of start end n k ≡ pick (leb (end - start + k) n) (Some (start_of start end n k)) None
   unfolding placed_of room_for
   placed_by_room = rw (le-leb start end order, le-leb end n inside)
 
@@ -31,11 +29,11 @@ module _ (start end n k : ℕ) (order : start ≤ end) (inside : end ≤ n) wher
       (λ y. omega (arith, leb-true))
       (λ y. omega arith)
 
-  module _ {p : Placed} (e : p ≡ placed_of start end n k) where
-    pub no_room : p ≡ NoRoom → leb (end - start + k) n ≡ false
+  module _ {p : Option ℕ} (e : p ≡ placed_of start end n k) where
+    pub no_room : p ≡ None → leb (end - start + k) n ≡ false
     no_room q = answered_not (leb (end - start + k) n) (start_of start end n k) (sym placed_by_room ∙ sym e ∙ q)
 
-    module _ {at : ℕ} (q : p ≡ At at) where
+    module _ {at : ℕ} (q : p ≡ Some at) where
       told : (leb (end - start + k) n ≡ true) × (at ≡ start_of start end n k)
       told = answered_at (leb (end - start + k) n) (start_of start end n k) (sym placed_by_room ∙ sym e ∙ q)
 

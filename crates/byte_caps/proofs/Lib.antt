@@ -1,3 +1,2 @@
--- How each arm of the caps is met, and that each call has one answer.
-mod CapArms
+-- Each call has one answer.
 pub mod One

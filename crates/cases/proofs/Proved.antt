@@ -18,11 +18,11 @@ use Rattle.window_rules.specs.Index.{highest}
 use Rattle.window_rules.specs.Levels.{each_depth, each_substream, drained_of, underrun_of, added_levels_of, totals_of, fresh_levels_of}
 use Rattle.levels.specs.Questions.{held_of, buffered_of}
 use Rattle.levels.specs.Numbers as Numbers
-use Rattle.window_rules.specs.Rings.{fresh_five, fresh_four, fresh_rings_of, written_five, written_four, written_of, contribution_from}
+use Rattle.window_rules.specs.Rings.{fresh_rings_of, written_each, written_of, each_at}
 use Rattle.window_rules.specs.Window as Window
 
 right_table : T (every right 0 table)
-unfolding table same outcome_of first_from within looped onward request ask arrived decide moved settle bcd_of rate_of stamp_of fields_of parse_of candidate_at find stamp_at sync_length unit_length checks candidate directory closing body unit raise act search step_by size_of fresh_of counts_fit_of fits_of step_of updated_of start_of elapsed_of continues_of state0_of states1to4_of state5_of states6to10_of states11to15_of field_end_of answers_of units_from sampled_of left_of added_of sampled_substream_of left_substream_of added_substream_of everyIndex highest each_depth each_substream drained_of underrun_of added_levels_of totals_of held_of fresh_levels_of Numbers.depth_fits Numbers.depths_fit Numbers.substreams_fit Numbers.fits_of Numbers.all_small Numbers.small_of Numbers.room_at Numbers.depth_room Numbers.depths_room Numbers.substreams_room Numbers.room_of fresh_five fresh_four fresh_rings_of written_five written_four written_of contribution_from Window.fresh_of Window.drain_of Window.stepped_of Window.refused_of Window.answer_of Window.pushed_of buffered_of
+unfolding table same outcome_of first_from within looped onward request ask arrived decide moved settle bcd_of rate_of stamp_of fields_of parse_of candidate_at find stamp_at sync_length unit_length checks candidate directory closing body unit raise act search step_by size_of fresh_of counts_fit_of fits_of step_of updated_of start_of elapsed_of continues_of state0_of states1to4_of state5_of states6to10_of states11to15_of field_end_of answers_of units_from sampled_of left_of added_of sampled_substream_of left_substream_of added_substream_of everyIndex highest each_depth each_substream drained_of underrun_of added_levels_of totals_of held_of fresh_levels_of Numbers.depth_fits Numbers.depths_fit Numbers.substreams_fit Numbers.fits_of Numbers.all_small Numbers.small_of Numbers.room_at Numbers.depth_room Numbers.depths_room Numbers.substreams_room Numbers.room_of fresh_rings_of written_each written_of each_at Window.fresh_of Window.drain_of Window.stepped_of Window.refused_of Window.answer_of Window.pushed_of buffered_of
 right_table = tt
 
 same_lists : (xs ys : List ℕ) → T (same xs ys) → xs ≡ ys

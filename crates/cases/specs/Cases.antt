@@ -1,26 +1,26 @@
 -- P1 to P9 with what document 01 says of each: definitions only. An outcome is written as the number of the answer and its values.
-use Rattle.std.specs.Prelude.{ℕ, Bool, true, false, List, [], ◌∷◌, eqb, get_or, replicate}
+use Rattle.std.specs.Prelude.{ℕ, Bool, true, false, List, [], ◌∷◌, eqb, get_or, replicate, Err, Ok, Result, Option, Some, None}
 use Rattle.laws.specs.Pick.{pick}
 use Rattle.machine.specs.Scan as Scan
 use Rattle.machine.specs.Scan.{request, ran_dry, spoke}
 use Rattle.crc.specs.Crc.{major_sync}
 use Rattle.timestamp.specs.declared.Framerate.{Framerate}
 use Rattle.timestamp.specs.declared.Framerate.TheVariants.{R23_976, R24, R25, R29_97, R30, R50, R59_94, R60, Invalid}
-use Rattle.timestamp.specs.declared.Parsed.{Parsed}
-use Rattle.timestamp.specs.declared.Parsed.TheVariants.{Stamp, Refused}
 use Rattle.timestamp.specs.Timestamp.{number_of, parse_of}
 use Rattle.rules.specs.declared.Stream.{Stream}
 use Rattle.rules.specs.Request.{Event, handed, too_short, failed, reader, lock, new}
-use Rattle.timing.specs.declared.Answer.{Answer as TimingAnswer}
-use Rattle.timing.specs.declared.Answer.TheVariants.{Nothing, Start, Record}
+use Rattle.timing.specs.Numbers.{Answer as TimingAnswer}
 use Rattle.timing.specs.Timing.{fresh_of}
 use Rattle.timing.specs.Units.{answers_of, units_from}
 use Rattle.kinds.specs.declared.SampleTime.{SampleTime}
 use Rattle.levels.specs.declared.Contribution.{Contribution}
+use Rattle.levels.specs.declared.Refusal.{Refusal}
 use Rattle.window_rules.specs.declared.Window.{Window}
 use Rattle.window_rules.specs.Window as Window
 use Rattle.window_rules.specs.Window.{pushed_of}
 use Rattle.levels.specs.Questions.{buffered_of}
+use Rattle.timestamp.specs.declared.Timestamp.{Timestamp}
+use Rattle.timestamp.specs.declared.TimestampError.{TimestampError}
 
 -- what a case is about
 pub data Case : Type 0 where
@@ -62,16 +62,16 @@ rate_by R60 = 8
 rate_by (Invalid n) = n
 
 -- 0, the time, the rate's code, drop frame; or the refusal's number
-abbrev stamped_by : Parsed → List ℕ
-stamped_by (Stamp t) = 0 ∷ t.hours ∷ t.minutes ∷ t.seconds ∷ t.frames ∷ rate_by t.framerate ∷ pick t.dropframe 1 0 ∷ []
-stamped_by (Refused e) = number_of e ∷ []
+abbrev stamped_by : Result Timestamp TimestampError → List ℕ
+stamped_by (Ok t) = 0 ∷ t.hours ∷ t.minutes ∷ t.seconds ∷ t.frames ∷ rate_by t.framerate ∷ pick t.dropframe 1 0 ∷ []
+stamped_by (Err e) = number_of e ∷ []
 
 -- the starts that are answered
 abbrev started_by : List TimingAnswer → List ℕ
 started_by [] = []
-started_by (Nothing ∷ more) = started_by more
-started_by (Start n ∷ more) = n ∷ started_by more
-started_by (Record ∷ more) = 1 ∷ started_by more
+started_by (Ok None ∷ more) = started_by more
+started_by (Ok (Some n) ∷ more) = n ∷ started_by more
+started_by (Err refusal ∷ more) = 1 ∷ started_by more
 
 abbrev bytes_of : ℕ → Contribution
 bytes_of n = record { total = replicate 5 n; stream = replicate 5 n; substream = replicate 4 n }
@@ -82,9 +82,14 @@ at n = record { 0 = n }
 abbrev two_steps : ℕ → Window
 two_steps head = (pushed_of (pushed_of Window.fresh_of (at 0) (at 5) (bytes_of 10)).window (at head) (at 100) (bytes_of 0)).window
 
+-- units held, none where the question is refused
+abbrev units_by : Result ℕ Refusal → ℕ
+units_by (Ok n) = n
+units_by (Err e) = 0
+
 -- units held, and the first depth
 abbrev held_by : Window → List ℕ
-held_by w = (buffered_of w.levels).units ∷ (get_or w.levels.depth 0 (record { total = 0; stream = 0; peak = record { total = 0; stream = 0; overhead = 0 } })).total ∷ []
+held_by w = units_by (buffered_of w.levels) ∷ (get_or w.levels.depth 0 (record { total = 0; stream = 0; peak = record { total = 0; stream = 0; overhead = 0 } })).total ∷ []
 
 unfoldable pub outcome_of : Case → List ℕ
 outcome_of (under_lock bytes) = spoken_by (request reader locked_one bytes)

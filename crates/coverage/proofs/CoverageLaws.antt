@@ -1,7 +1,7 @@
 -- WHAT THE NUMBER MEANS. Of every stream of up to 2^64 - 1 bytes: the bytes outside units and those that the units of a fresh scan cover are all of them;
 -- none is outside exactly if the stream is the units one behind the other, a carried timestamp ahead of the first; and every loss that was
 -- counted took a byte that is outside, so that no quiet loss hides behind a stream with none.
-use Rattle.std.specs.Prelude.{ℕ, zero, suc, ◌+◌, ◌-◌, ◌≤◌, ◌≡◌, refl, Bool, true, false, List, [], ◌∷◌, ◌++◌, leb, eqb, length, take, drop}
+use Rattle.std.specs.Prelude.{ℕ, zero, suc, ◌+◌, ◌-◌, ◌≤◌, ◌≡◌, refl, Bool, true, false, List, [], ◌∷◌, ◌++◌, leb, eqb, length, take, drop, Err, None, Ok, Option, Result, Some}
 use native.Mathlib.Omega.{arith}
 use Rattle.std.proofs.Common.{zero-add, sym, ap, ◌∙◌, subst, length-append, take-append-drop, drop-drop, leb-true, le-leb}
 use Rattle.std.proofs.Math.Seq.{drop-length}
@@ -11,8 +11,6 @@ use Rattle.machine.specs.Ask.{moved}
 use Rattle.machine.specs.Always.{AfterStep, Lasts, Numbered, Ordered}
 use Rattle.machine.proofs.AlwaysLaws.{fresh_always}
 use Rattle.crc.specs.declared.Algorithm.{Algorithm}
-use Rattle.timestamp.specs.declared.Parsed.{Parsed}
-use Rattle.timestamp.specs.declared.Parsed.TheVariants.{Stamp as Parses, Refused}
 use Rattle.timestamp.specs.Timestamp.{parse_of}
 use Rattle.rules.specs.Search.{keep, kept, stamp_of, stamp_at}
 use Rattle.rules.specs.Request.{Event, handed, too_short, failed, arrive, act, lose, reader, new, fresh_scan}
@@ -24,8 +22,6 @@ use Rattle.rules.proofs.FitLaws.{raise_errors}
 use Rattle.rules.specs.Units.{IfUnit, Follows, Promised}
 use Rattle.rules.proofs.StampLaws.{standing_lasts}
 use Rattle.rules.proofs.HandedLaws.{fresh_units_stand, fresh_units_apart, new_stands}
-use Rattle.rules.specs.declared.Waiting.{Waiting}
-use Rattle.rules.specs.declared.Waiting.TheVariants.{Nothing, Stamp}
 use Rattle.rules.specs.declared.Unit.{Unit as TheUnit}
 use Rattle.rules.specs.declared.Stream.{Stream}
 use Rattle.rules.specs.declared.Loss.{Loss}
@@ -34,6 +30,8 @@ use Rattle.rules.specs.declared.Verdict.{Verdict}
 use Rattle.rules.specs.declared.Verdict.TheVariants.{Lock, Lost, Short, Failed, Whole}
 use Rattle.coverage.specs.declared.Coverage.{Coverage}
 use Rattle.coverage.specs.Coverage.{stamp_length, begin_of, covered_by, units_of, capped, nothing_yet, passed_of, covered_of, taken, outside}
+use Rattle.timestamp.specs.declared.Timestamp.{Timestamp}
+use Rattle.timestamp.specs.declared.TimestampError.{TimestampError}
 
 -- 1. Units that lie apart: each behind the one before it, with room for the timestamp that it carries, and all before an end.
 
@@ -61,9 +59,9 @@ behind x i j (too_short a m p ∷ es) h = (tt, behind x (suc i) (suc j) es h.1)
 behind x i j (failed p ∷ es) h = (tt, behind x (suc i) (suc j) es h.1)
 
 -- a carried timestamp has its 16 bytes before the first unit, and later units carry none
-room_ahead : (bytes : List ℕ) (x : TheUnit) (w : Waiting) → x.waiting ≡ w → Promised bytes x → (n k : ℕ) → Later n k x → (k ≡ 0 → n ≡ 0) → n + stamp_length w ≤ x.position.0
-room_ahead bytes x Nothing e h n k l z = let m = l.0 in omega arith
-room_ahead bytes x (Stamp t) e h n k l z =
+room_ahead : (bytes : List ℕ) (x : TheUnit) (w : Option Timestamp) → x.waiting ≡ w → Promised bytes x → (n k : ℕ) → Later n k x → (k ≡ 0 → n ≡ 0) → n + stamp_length w ≤ x.position.0
+room_ahead bytes x None e h n k l z = let m = l.0 in omega arith
+room_ahead bytes x (Some t) e h n k l z =
     let c = h.carries t e in
     let f = c.first in
     let r = c.ahead.there in
@@ -102,7 +100,7 @@ unfolding passed_of
 passed_counts place c h o b = go (leb place c.reached) refl
   where
     go : (t : Bool) → leb place c.reached ≡ t
-        → (pick t c (record { reached = place; outside = capped (c.outside + (place - c.reached)); first = pick (eqb c.outside 0) c.reached c.first })).outside
+        → (pick t c (record { reached = place; outside = capped (c.outside + (place - c.reached)); first = pick (eqb c.outside 0) (Some c.reached) c.first })).outside
         ≡ c.outside + (place - c.reached)
     go true e = let l = leb-true place c.reached e in omega arith
     go false e = capped_small (c.outside + (place - c.reached)) (omega arith)
@@ -178,19 +176,19 @@ covered_snoc (failed p ∷ es) e = covered_snoc es e
 abbrev Spent : List Event → Stream → Type 0
 Spent es s = covered_by es + s.losses.errors + stamp_length s.waiting ≤ at s
 
-kept_shorter : (n : ℕ) (w : Waiting) → stamp_length (kept n w) ≤ stamp_length w
+kept_shorter : (n : ℕ) (w : Option Timestamp) → stamp_length (kept n w) ≤ stamp_length w
 kept_shorter zero w = omega arith
 kept_shorter (suc n) w = omega arith
 
-kept_none : (n : ℕ) (w : Waiting) → 1 ≤ n → stamp_length (kept n w) ≡ 0
+kept_none : (n : ℕ) (w : Option Timestamp) → 1 ≤ n → stamp_length (kept n w) ≡ 0
 kept_none zero w h = absurd (omega arith)
 kept_none (suc n) w h = refl
 
-stamp_shorter : (p : Parsed) → stamp_length (stamp_of p) ≤ 16
-stamp_shorter (Parses t) = omega arith
-stamp_shorter (Refused e) = omega arith
+stamp_shorter : (p : Result Timestamp TimestampError) → stamp_length (stamp_of p) ≤ 16
+stamp_shorter (Ok t) = omega arith
+stamp_shorter (Err e) = omega arith
 
-stored_shorter : (seen : Bool) (n : ℕ) (u : List ℕ) (w : Waiting) → stamp_length (stamp_at seen n u w) ≤ stamp_length w + n
+stored_shorter : (seen : Bool) (n : ℕ) (u : List ℕ) (w : Option Timestamp) → stamp_length (stamp_at seen n u w) ≤ stamp_length w + n
 unfolding stamp_at
 stored_shorter true n u w = let k = kept_shorter n w in omega arith
 stored_shorter false n u w = go (leb 16 n) refl

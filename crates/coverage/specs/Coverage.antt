@@ -1,18 +1,17 @@
 -- How many bytes of a stream are outside units, and where the first of them stands: definitions only.
-use Rattle.std.specs.Prelude.{ℕ, ◌+◌, ◌-◌, List, [], ◌∷◌, ◌++◌, leb, eqb}
+use Rattle.std.specs.Prelude.{ℕ, ◌+◌, ◌-◌, List, [], ◌∷◌, ◌++◌, leb, eqb, None, Option, Some}
 use Rattle.laws.specs.Pick.{pick}
 use Rattle.laws.specs.Parts.{part}
-use Rattle.rules.specs.declared.Waiting.{Waiting}
-use Rattle.rules.specs.declared.Waiting.TheVariants.{Nothing, Stamp}
 use Rattle.rules.specs.declared.Unit.{Unit as TheUnit}
 use Rattle.rules.specs.Request.{Event, handed, too_short, failed}
 use Rattle.coverage.specs.declared.Coverage.{Coverage}
+use Rattle.timestamp.specs.declared.Timestamp.{Timestamp}
 
 -- 1. What is covered: the bytes of the units, and the 16 of a timestamp that one carries.
 
-abbrev pub stamp_length : Waiting → ℕ
-stamp_length Nothing = 0
-stamp_length (Stamp t) = 16
+abbrev pub stamp_length : Option Timestamp → ℕ
+stamp_length None = 0
+stamp_length (Some t) = 16
 
 -- where what a unit covers begins
 abbrev pub begin_of : TheUnit → ℕ
@@ -39,7 +38,7 @@ abbrev pub capped : ℕ → ℕ
 capped n = pick (leb n 18446744073709551615) n 18446744073709551615
 
 unfoldable pub nothing_yet : Coverage
-nothing_yet = record { reached = 0; outside = 0; first = 0 }
+nothing_yet = record { reached = 0; outside = 0; first = None }
 
 -- the bytes up to a place are in no unit
 unfoldable pub passed_of : ℕ → Coverage → Coverage
@@ -48,7 +47,7 @@ passed_of place c =
     (record {
       reached = place;
       outside = capped (c.outside + (place - c.reached));
-      first = pick (eqb c.outside 0) c.reached c.first;
+      first = pick (eqb c.outside 0) (Some c.reached) c.first;
     })
 
 -- a unit: what lies between is outside, and its own bytes are covered
@@ -71,5 +70,5 @@ taken (failed p ∷ es) c = taken es c
 abbrev pub outside : List Event → ℕ → ℕ
 outside es n = (passed_of n (taken es nothing_yet)).outside
 
-abbrev pub first_outside : List Event → ℕ → ℕ
+abbrev pub first_outside : List Event → ℕ → Option ℕ
 first_outside es n = (passed_of n (taken es nothing_yet)).first

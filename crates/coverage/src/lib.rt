@@ -5,60 +5,55 @@
 // nothing is kept of them but three numbers.
 #![tactic(auto)]
 
-ghost use Rattle.std.specs.Prelude.{◌≡◌, ◌+◌};
-ghost use Rattle.coverage.specs.Coverage.{capped, nothing_yet, begin_of, passed_of, covered_of};
+ghost use Rattle.std.specs.Prelude.{◌≡◌};
+ghost use Rattle.coverage.specs.Coverage.{nothing_yet, begin_of, passed_of, covered_of};
 
-use rules::{Unit, Waiting};
+use rules::Unit;
 
-// How far the stream was looked at, how many bytes before that are outside units, and where the first of them stands (0 where there is none).
+// How far the stream was looked at, how many bytes before that are outside units, and where the first of them stands, if there are any.
 #[derive(Clone, Copy)]
 pub struct Coverage {
     pub reached: u64,
     pub outside: u64,
-    pub first: u64,
-}
-
-// A sum, or the largest number where it would pass that: no stream is so long, but any record is answered.
-fn sum(a: u64, b: u64) -> u64
-    ensures { result ≡ capped (a + b) }
-{
-    if b <= u64::MAX - a { a + b } else { u64::MAX }
+    pub first: Option<u64>,
 }
 
 // Where what a unit covers begins: at the timestamp that it carries, or at the unit itself.
 fn begin_of(unit: Unit) -> u64
     ensures { result ≡ begin_of unit }
 {
-    let waiting = unit.waiting;
     let at = unit.position.0;
-    match waiting {
-        Waiting::Stamp(_) => { if at < 16 { 0 } else { at - 16 } }
-        Waiting::Nothing => at,
+    match unit.waiting {
+        Some(_) => at.saturating_sub(16),
+        None => at,
     }
 }
 
+// No stream is so long that a sum here reaches the largest number, but any record is answered.
 impl Coverage {
     // Nothing was looked at yet.
+    #[tactic(auto, unfolding(crate::specs::Coverage::nothing_yet))]
     pub fn none() -> Coverage
         ensures { result ≡ nothing_yet }
     {
         Coverage {
             reached: 0,
             outside: 0,
-            first: 0,
+            first: None,
         }
     }
 
     // The bytes up to a place are in no unit.
+    #[tactic(auto, unfolding(crate::specs::Coverage::passed_of))]
     pub fn passed(self, place: u64) -> Coverage
         ensures { result ≡ passed_of place self }
     {
         if place <= self.reached {
             return self;
         }
-        let outside = sum(self.outside, place - self.reached);
+        let outside = self.outside.saturating_add(place - self.reached);
         let first = if self.outside == 0 {
-            self.reached
+            Some(self.reached)
         } else {
             self.first
         };
@@ -70,14 +65,14 @@ impl Coverage {
     }
 
     // A unit was handed out: what lies between is outside, and its own bytes are covered.
+    #[tactic(auto, unfolding(crate::specs::Coverage::covered_of))]
     pub fn covered(self, unit: Unit) -> Coverage
         ensures { result ≡ covered_of unit self }
     {
         let before = self.passed(begin_of(unit));
         Coverage {
-            reached: sum(unit.position.0, unit.length as u64),
-            outside: before.outside,
-            first: before.first,
+            reached: unit.position.0.saturating_add(u64::from(unit.length)),
+            ..before
         }
     }
 }

@@ -1,5 +1,5 @@
 -- What holds of the check for every setting: a message in parts, and the register's width.
-use Rattle.std.specs.Prelude.{ℕ, ◌+◌, ◌*◌, ◌%◌, ◌^◌, ◌<◌, ◌≡◌, refl, true, false, List, [], ◌∷◌, ◌++◌, leb}
+use Rattle.std.specs.Prelude.{ℕ, ◌+◌, ◌*◌, ◌%◌, ◌^◌, ◌<◌, ◌≡◌, refl, true, false, List, [], ◌∷◌, ◌++◌, leb, fold}
 use Rattle.std.proofs.Common.{arith, sym, ap, ◌∙◌, append_assoc}
 use Rattle.std.proofs.lemmas.Nat.{xor_lt}
 use Rattle.laws.specs.Pick.{pick_holds}
@@ -24,6 +24,12 @@ bits_cons x s = refl
 pub bits_none : bits_of [] ≡ []
 unfolding bits_of
 bits_none = refl
+
+-- the register goes over a message a byte at a time
+pub bits_fold : (poly crc : ℕ) (s : List ℕ) → run poly crc (bits_of s) ≡ fold (λ r x. run poly r (byte_bits x)) crc s
+unfolding run bits_of
+bits_fold poly crc [] = refl
+bits_fold poly crc (x ∷ s) = run_append poly crc (byte_bits x) (bits_of s) ∙ bits_fold poly (run poly crc (byte_bits x)) s
 
 -- a message in two parts: what the first leaves, the second takes up
 pub update_append : (a : Algorithm) (crc : ℕ) (s t : List ℕ) → update_of a crc (s ++ t) ≡ update_of a (update_of a crc s) t

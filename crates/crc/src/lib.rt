@@ -6,7 +6,7 @@ ghost use Rattle.std.specs.Prelude.{◌≡◌, ◌<◌};
 ghost use Rattle.crc.specs.Crc.{bit_step, update_of, closed_of, check_of, byte_bits, run, major_sync};
 
 // The three settings given at opening: the polynomial, the start, and whether 16 zero bits follow the message.
-#[derive(Clone, Copy)]
+#[derive(Clone, Copy, Debug, PartialEq, Eq)]
 pub struct Algorithm {
     pub poly: u16,
     pub init: u16,
@@ -14,12 +14,13 @@ pub struct Algorithm {
 }
 
 // One bit: the register is doubled modulo 65,536 and the bit added; if its old top bit was one, the polynomial is XORed in.
+#[tactic(auto, unfolding(crate::specs::Crc::bit_step))]
 fn bit(poly: u16, crc: u16, b: u8) -> u16
     requires { b < 2 }
     ensures { result ≡ bit_step poly crc b }
 {
-    let doubled = crc % 32768 * 2 + b as u16;
-    if 32768 <= crc {
+    let doubled = crc.wrapping_mul(2) + u16::from(b);
+    if crc >= 0x8000 {
         doubled ^ poly
     } else {
         doubled
@@ -30,14 +31,9 @@ fn bit(poly: u16, crc: u16, b: u8) -> u16
 fn byte(poly: u16, crc: u16, x: u8) -> u16
     ensures { result ≡ run poly crc (byte_bits x) }
 {
-    let a = bit(poly, crc, x / 128 % 2);
-    let b = bit(poly, a, x / 64 % 2);
-    let c = bit(poly, b, x / 32 % 2);
-    let d = bit(poly, c, x / 16 % 2);
-    let e = bit(poly, d, x / 8 % 2);
-    let f = bit(poly, e, x / 4 % 2);
-    let g = bit(poly, f, x / 2 % 2);
-    bit(poly, g, x % 2)
+    (0..8u32)
+        .rev()
+        .fold(crc, |crc, k| bit(poly, crc, x >> k & 1))
 }
 
 impl Algorithm {
@@ -55,33 +51,27 @@ impl Algorithm {
     }
 
     // The register after a part of the message: what a part leaves, the next one takes up.
+    #[tactic(auto, using(crate::specs::Laws::bits_fold))]
     pub fn update(self, crc: u16, bytes: &[u8]) -> u16
         ensures { result ≡ update_of self crc bytes.now }
     {
-        let poly = self.poly;
-        let mut crc = crc;
-        let mut i = 0;
-        while i < bytes.len() {
-            crc = byte(poly, crc, bytes[i]);
-            i += 1;
-        }
-        crc
+        bytes.iter().fold(crc, |crc, x| byte(self.poly, crc, *x))
     }
 
     // The register after the message's last part: 16 zero bits more, where the setting asks for them.
+    #[tactic(auto, unfolding(crate::specs::Crc::run, crate::specs::Crc::bits_of))]
     pub fn closed(self, crc: u16) -> u16
         ensures { result ≡ closed_of self crc }
     {
-        let poly = self.poly;
-        let zeros = self.zeros;
-        if zeros {
-            byte(poly, byte(poly, crc, 0), 0)
+        if self.zeros {
+            self.update(crc, &[0, 0])
         } else {
             crc
         }
     }
 
     // The check of a whole message.
+    #[tactic(auto, using(crate::specs::Laws::check_closed))]
     pub fn check(self, bytes: &[u8]) -> u16
         ensures { result ≡ check_of self bytes.now }
     {

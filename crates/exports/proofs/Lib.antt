@@ -1,3 +1,4 @@
--- What each way out of a call shows, and that each call has one answer.
+-- A refused request, and that each call has one answer.
 pub mod One
-mod Ways
+pub mod Ways
+pub mod Named

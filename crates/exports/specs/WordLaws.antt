@@ -1,32 +1,28 @@
 -- Laws: the words that a call leaves are read by the next call as the record that the library left. So a chain of exported calls is the chain of the
 -- library's. A record's numbers are of any size in the logic; `Held` says of them what their types say of every value that runs.
-use Rattle.std.specs.Prelude.{ℕ, ◌<◌, ◌/◌, ◌%◌, ◌≡◌, Bool, true, false, List, [], ◌∷◌, eqb, length}
-use Rattle.std.proofs.Common.{arith}
+use Rattle.std.specs.Prelude.{ℕ, ◌<◌, ◌/◌, ◌%◌, ◌≡◌, Bool, true, false, List, [], ◌∷◌, eqb, length, Err, None, Ok, Option, Result, Some}
+use Rattle.std.proofs.Common.{ap, arith}
 use Rattle.std.proofs.Math.Path.{refl, subst}
 use Rattle.machine.specs.Always.{AfterRequest}
 use Rattle.machine.specs.Scan as Scan
 use Rattle.crc.specs.declared.Algorithm.{Algorithm}
-use Rattle.timestamp.specs.declared.Framerate.{Framerate}
 use Rattle.timestamp.specs.declared.Timestamp.{Timestamp}
-use Rattle.timestamp.specs.declared.Parsed.TheVariants.{Stamp as Parses}
 use Rattle.laws.specs.Words.{word_at}
 use Rattle.laws.specs.Flags.{yes_of, yes_flag}
-use Rattle.timestamp.specs.Timestamp.{rate_of, parse_of, stamp_of as fieldsStamp}
-use Rattle.timestamp.specs.Laws.{OfStamp, every_parse}
+use Rattle.timestamp.specs.Timestamp.{rate_of, rate_code, parse_of, stamp_of as fieldsStamp}
+use Rattle.timestamp.specs.Laws.{OfStamp, code_of_rate, every_parse}
 use Rattle.laws.specs.Pick.{pick, pick_holds}
-use Rattle.rules.specs.declared.Waiting.{Waiting}
-use Rattle.rules.specs.declared.Waiting.TheVariants.{Nothing, Stamp}
 use Rattle.rules.specs.declared.Stream.{Stream}
 use Rattle.rules.specs.Request.{Event, handed, too_short, failed}
 use Rattle.rules.proofs.CarryLaws.{Carried, carried_request}
 use Rattle.extract.specs.Record.{fits_of, unread, opened}
 use Rattle.extract.specs.Calls.{push_answer_of, place_of, grown, on_accepted, pushed_of, left_at, answered_of, asked_of}
 use Rattle.extract.specs.declared.Extractor.{Extractor}
-use Rattle.extract.specs.declared.PushAnswer.{PushAnswer}
-use Rattle.extract.specs.declared.PushAnswer.TheVariants.{Accepted, Record as PushRecord, Pushes, Total, Room}
-use Rattle.extract.specs.declared.Answer.TheVariants.{InsufficientData, Quiet, Record as BadRecord}
+use Rattle.extract.specs.declared.Refusal.{Refusal}
+use Rattle.extract.specs.declared.Refusal.TheVariants.{Record, Pushes, Total, Room}
+use Rattle.extract.specs.declared.Answer.TheVariants.{InsufficientData, Quiet}
 use Rattle.extract.specs.declared.Asked.{Asked}
-use Rattle.record_words.specs.Words.{half, rate_code, stamp_of, waiting_of, stamp_words, stamp_on, check_of, stream_of, reader_of, left_on, reader_on}
+use Rattle.record_words.specs.Words.{half, stamp_of, waiting_of, stamp_words, stamp_on, check_of, stream_of, reader_of, left_on, reader_on}
 use Rattle.record_words.specs.UpToLaws.{up_to_lem}
 use Rattle.exports.specs.Answers.{placed_on, pushed_on, asked_number, asked_on}
 
@@ -54,36 +50,24 @@ Coded t = rate_of (rate_code t.framerate) ≡ t.framerate
 
 -- every code of a rate, and so every rate that a parse or the words give
 rate_coded : (n : ℕ) → rate_of (rate_code (rate_of n)) ≡ rate_of n
-unfolding rate_of
-rate_coded n =
-    pick_holds Back (eqb n 1) _ _ (λ e. refl) (λ a.
-    pick_holds Back (eqb n 2) _ _ (λ e. refl) (λ b.
-    pick_holds Back (eqb n 3) _ _ (λ e. refl) (λ c.
-    pick_holds Back (eqb n 4) _ _ (λ e. refl) (λ d.
-    pick_holds Back (eqb n 5) _ _ (λ e. refl) (λ f.
-    pick_holds Back (eqb n 6) _ _ (λ e. refl) (λ g.
-    pick_holds Back (eqb n 7) _ _ (λ e. refl) (λ h.
-    pick_holds Back (eqb n 8) _ _ (λ e. refl) (λ i. rw (a, b, c, d, f, g, h, i)))))))))
-  where
-    Back : Framerate → Type 0
-    Back f = rate_of (rate_code f) ≡ f
+rate_coded n = ap rate_of (code_of_rate n)
 
 fields_coded : (h m x f samples flags : ℕ) → Coded (fieldsStamp h m x f samples flags)
 unfolding fieldsStamp
 fields_coded h m x f samples flags = rate_coded (flags / 4 % 16)
 
-pub parsed_coded : (bs : List ℕ) (t : Timestamp) → parse_of bs ≡ Parses t → Coded t
+pub parsed_coded : (bs : List ℕ) (t : Timestamp) → parse_of bs ≡ Ok t → Coded t
 parsed_coded bs t e = subst (OfStamp Coded) e (every_parse (OfStamp Coded) tt bs tt tt (λ h m x f. fields_coded h m x f (word_at bs 10) (word_at bs 12)))
 
 -- 3. The whole record: 24 words of any value, and a record laid on them.
 
-abbrev pub HeldWaiting : Waiting → Type 0
-HeldWaiting Nothing = Unit {0}
-HeldWaiting (Stamp t) = HeldStamp t
+abbrev pub HeldWaiting : Option Timestamp → Type 0
+HeldWaiting None = Unit {0}
+HeldWaiting (Some t) = HeldStamp t
 
-abbrev pub CodedWaiting : Waiting → Type 0
-CodedWaiting Nothing = Unit {0}
-CodedWaiting (Stamp t) = Coded t
+abbrev pub CodedWaiting : Option Timestamp → Type 0
+CodedWaiting None = Unit {0}
+CodedWaiting (Some t) = Coded t
 
 -- what the types and number 1 say of a record
 pub record Held (e : Extractor) : Type 0 where
@@ -92,12 +76,12 @@ pub record Held (e : Extractor) : Type 0 where
   pub waiting : HeldWaiting e.stream.waiting
 
 -- a timestamp that waits, if one does
-coded_of : (w : Waiting) → ((t : Timestamp) → w ≡ Stamp t → Coded t) → CodedWaiting w
-coded_of Nothing h = tt
-coded_of (Stamp t) h = h t refl
+coded_of : (w : Option Timestamp) → ((t : Timestamp) → w ≡ Some t → Coded t) → CodedWaiting w
+coded_of None h = tt
+coded_of (Some t) h = h t refl
 
 -- dry is 7 or 8, and not 1
-dry_number : (b : Bool) → eqb (asked_number (pick b InsufficientData Quiet)) 1 ≡ false
+dry_number : (b : Bool) → eqb (asked_number (Ok (pick b InsufficientData Quiet))) 1 ≡ false
 dry_number true = refl
 dry_number false = refl
 
@@ -106,7 +90,7 @@ module _ (w0 w1 w2 w3 w4 w5 w6 w7 w8 w9 w10 w11 w12 w13 w14 w15 w16 w17 w18 w19 
   words = w0 ∷ w1 ∷ w2 ∷ w3 ∷ w4 ∷ w5 ∷ w6 ∷ w7 ∷ w8 ∷ w9 ∷ w10 ∷ w11 ∷ w12 ∷ w13 ∷ w14 ∷ w15 ∷ w16 ∷ w17 ∷ w18 ∷ w19 ∷ w20 ∷ w21 ∷ w22 ∷ w23 ∷ []
 
   -- the record with these numbers, and with the words' own end, total and setting
-  abbrev made : ℕ → ℕ → ℕ → ℕ → ℕ → ℕ → Bool → Bool → Waiting → Extractor
+  abbrev made : ℕ → ℕ → ℕ → ℕ → ℕ → ℕ → Bool → Bool → Option Timestamp → Extractor
   made start unanswered consumed frames errors substreams locked seen w =
       record {
         start = start;
@@ -126,17 +110,17 @@ module _ (w0 w1 w2 w3 w4 w5 w6 w7 w8 w9 w10 w11 w12 w13 w14 w15 w16 w17 w18 w19 
             };
       }
 
-  abbrev Back : ℕ → ℕ → ℕ → ℕ → ℕ → ℕ → Bool → Bool → Waiting → Type 0
+  abbrev Back : ℕ → ℕ → ℕ → ℕ → ℕ → ℕ → Bool → Bool → Option Timestamp → Type 0
   Back start unanswered consumed frames errors substreams locked seen w =
       reader_of (left_on words (made start unanswered consumed frames errors substreams locked seen w)) ≡ made start unanswered consumed frames errors substreams locked seen w
 
   -- a request leaves the end, the total and the setting where they were
-  record_back : (start unanswered consumed frames errors substreams : ℕ) (locked seen : Bool) (w : Waiting) → unanswered < 65536 → substreams < 16
+  record_back : (start unanswered consumed frames errors substreams : ℕ) (locked seen : Bool) (w : Option Timestamp) → unanswered < 65536 → substreams < 16
       → HeldWaiting w → CodedWaiting w → Back start unanswered consumed frames errors substreams locked seen w
   unfolding left_on reader_of stream_of check_of stamp_on stamp_words waiting_of stamp_of
-  record_back start unanswered consumed frames errors substreams locked seen Nothing n k h c =
+  record_back start unanswered consumed frames errors substreams locked seen None n k h c =
       rw (← (up_to_lem 65536 unanswered n), ← (up_to_lem 16 substreams k), yes_flag locked, yes_flag seen)
-  record_back start unanswered consumed frames errors substreams locked seen (Stamp t) n k h c =
+  record_back start unanswered consumed frames errors substreams locked seen (Some t) n k h c =
       rw (
         ← (up_to_lem 65536 unanswered n),
         ← (up_to_lem 16 substreams k),
@@ -203,11 +187,11 @@ module _ (w0 w1 w2 w3 w4 w5 w6 w7 w8 w9 w10 w11 w12 w13 w14 w15 w16 w17 w18 w19 
   answered_back (Scan.spoke (too_short a m p) s u) k h = at_back _ _ s k h
   answered_back (Scan.spoke (failed p) s u) k h = at_back _ _ s k h
 
-  refused_back : Returns (record { extractor = reader_of words; answer = BadRecord })
+  refused_back : Returns (record { extractor = reader_of words; answer = Err Record })
   unfolding asked_on
   refused_back h = refl
 
-  idle_back : Returns (record { extractor = reader_of words; answer = Quiet })
+  idle_back : Returns (record { extractor = reader_of words; answer = Ok Quiet })
   unfolding asked_on
   idle_back h = left_back (reader_of words) reads_end reads_total reads_carried.check h (coded_of _ reads_carried.waits)
 
@@ -236,11 +220,11 @@ module _ (w0 w1 w2 w3 w4 w5 w6 w7 w8 w9 w10 w11 w12 w13 w14 w15 w16 w17 w18 w19 
   unfolding pushed_of pushed_on
   push_there_and_back n k = go (push_answer_of (reader_of words) n k)
     where
-      go : (a : PushAnswer) → (on_accepted a (grown (reader_of words) (place_of (reader_of words) n k) k) (reader_of words)).unanswered < 65536
+      go : (a : Result (Unit {0}) Refusal) → (on_accepted a (grown (reader_of words) (place_of (reader_of words) n k) k) (reader_of words)).unanswered < 65536
           → reader_of (pushed_on words (record { extractor = on_accepted a (grown (reader_of words) (place_of (reader_of words) n k) k) (reader_of words); answer = a }))
           ≡ on_accepted a (grown (reader_of words) (place_of (reader_of words) n k) k) (reader_of words)
-      go Accepted h = placed_back _ _ _ _ h
-      go PushRecord h = refl
-      go Pushes h = refl
-      go Total h = refl
-      go Room h = refl
+      go (Ok u) h = placed_back _ _ _ _ h
+      go (Err Record) h = refl
+      go (Err Pushes) h = refl
+      go (Err Total) h = refl
+      go (Err Room) h = refl

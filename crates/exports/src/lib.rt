@@ -10,126 +10,70 @@
 //   10 start  11 length  12 index  13 position  14 major  15 substreams  16 actual  17 minimum
 #![tactic(auto)]
 
-ghost use Rattle.std.specs.Prelude.{◌≡◌, ◌≤◌, length};
-ghost use Rattle.extract.specs.Calls.{opened_of, pushed_of, buffer_of, asked_of};
-ghost use Rattle.record_words.specs.Words.{setting_of, reader_of, left_on, reader_on};
-ghost use Rattle.exports.specs.Answers.{opened_number, opened_on, push_number, pushed_on, unit_on, short_on, asked_number, asked_on, asked_unit};
+ghost use Rattle.std.specs.Prelude.{◌≡◌, length, Ok};
+ghost use Rattle.extract.specs.Calls.{refusal_number, opened_of, pushed_of, buffer_of, asked_of};
+ghost use Rattle.record_words.specs.Words.{setting_of, reader_of};
+ghost use Rattle.exports.specs.Answers.{opened_number, opened_on, push_number, placed_on, pushed_on, unit_on, asked_number, asked_on, asked_unit};
 
 use crc::Algorithm;
-use extract::{Answer, Extractor, Opened, PushAnswer, Pushed};
+use extract::{Answer, Extractor, Refusal};
 use record_words::{flag, left_on, reader_of, reader_on, stamp_on, yes};
 use rules::Unit;
 
-fn opened_number(opened: Opened) -> u32
-    ensures { result ≡ opened_number opened }
+// The number that the desk sees, as C has it.
+fn number(refusal: Refusal) -> u32
+    ensures { result ≡ refusal_number refusal }
 {
-    match opened {
-        Opened::Open(e) => 0,
-        Opened::Refused => 1,
-    }
+    u32::from(u8::from(refusal))
 }
 
-// A refused opening writes nothing.
-fn opened_on(words: &mut [u64; 24], opened: Opened)
-    ensures { words.new ≡ opened_on words.old opened }
+// A piece moves the unread bytes, the total and the pushes.
+fn placed_on(words: &mut [u64; 24], e: Extractor)
+    ensures { words.new ≡ placed_on words.old e }
 {
-    match opened {
-        Opened::Open(e) => {
-            reader_on(words, e);
-        }
-        Opened::Refused => {}
-    }
+    words[10] = e.start as u64;
+    words[11] = e.end as u64;
+    words[12] = e.accepted;
+    words[13] = u64::from(e.unanswered);
 }
 
-fn push_number(a: PushAnswer) -> u32
-    ensures { result ≡ push_number a }
-{
-    match a {
-        PushAnswer::Accepted => 0,
-        PushAnswer::Record => 1,
-        PushAnswer::Pushes => 2,
-        PushAnswer::Total => 3,
-        PushAnswer::Room => 4,
-    }
-}
-
-// A piece moves the unread bytes, the total and the pushes; a refusal writes nothing.
-fn pushed_on(words: &mut [u64; 24], pushed: Pushed) -> u32
-    ensures number { result ≡ push_number pushed.answer }
-    ensures record { words.new ≡ pushed_on words.old pushed }
-{
-    let answer = pushed.answer;
-    let number = push_number(answer);
-    if number == 0 {
-        words[10] = pushed.extractor.start as u64;
-        words[11] = pushed.extractor.end as u64;
-        words[12] = pushed.extractor.accepted;
-        words[13] = pushed.extractor.unanswered as u64;
-    }
-    number
-}
-
+#[tactic(auto, unfolding(crate::specs::Answers::unit_on))]
 fn unit_on(words: &mut [u64; 24], u: Unit, start: usize)
     ensures { words.new ≡ unit_on words.old u start }
 {
-    let w = u.waiting;
     words[10] = start as u64;
-    words[11] = u.length as u64;
+    words[11] = u64::from(u.length);
     words[12] = u.index;
     words[13] = u.position.0;
     words[14] = flag(u.major);
-    words[15] = u.substreams as u64;
-    stamp_on(words, w);
-}
-
-fn short_on(words: &mut [u64; 24], actual: u16, minimum: u16)
-    ensures { words.new ≡ short_on words.old actual minimum }
-{
-    words[16] = actual as u64;
-    words[17] = minimum as u64;
-}
-
-fn asked_number(answer: Answer) -> u32
-    ensures { result ≡ asked_number answer }
-{
-    match answer {
-        Answer::Unit { unit, start } => 0,
-        Answer::InvalidAccessUnitLength { actual, minimum } => 5,
-        Answer::ParityCheckFailed => 6,
-        Answer::InsufficientData => 7,
-        Answer::Quiet => 8,
-        Answer::Record => 1,
-    }
+    words[15] = u64::from(u.substreams);
+    stamp_on(words, u.waiting);
 }
 
 // What a request says, in the lent unit: a unit, or number 5's lengths.
-fn spoken_on(words: &mut [u64; 24], answer: Answer)
-    ensures { words.new ≡ asked_unit words.old answer }
+#[tactic(auto, unfolding(crate::specs::Answers::asked_unit))]
+fn spoken_on(words: &mut [u64; 24], answer: Answer) -> u32
+    ensures number { result ≡ asked_number (Ok answer) }
+    ensures unit { words.new ≡ asked_unit words.old (Ok answer) }
 {
     match answer {
         Answer::Unit { unit, start } => {
             unit_on(words, unit, start);
+            0
         }
         Answer::InvalidAccessUnitLength { actual, minimum } => {
-            short_on(words, actual, minimum);
+            words[16] = u64::from(actual);
+            words[17] = u64::from(minimum);
+            5
         }
-        Answer::ParityCheckFailed => {}
-        Answer::InsufficientData => {}
-        Answer::Quiet => {}
-        Answer::Record => {}
-    }
-}
-
-// The record after a request; number 1 writes nothing.
-fn asked_on(words: &mut [u64; 24], number: u32, e: Extractor)
-    ensures { words.new ≡ asked_on words.old number e }
-{
-    if number != 1 {
-        left_on(words, e);
+        Answer::ParityCheckFailed => 6,
+        Answer::InsufficientData => 7,
+        Answer::Quiet => 8,
     }
 }
 
 // A new reader over a lent buffer, with any check setting; number 1 where the buffer's length doesn't fit.
+#[tactic(auto, unfolding(crate::specs::Answers::opened_on))]
 pub fn mv_open(reader: &mut [u64; 24], buffer: &[u8], poly: u16, init: u16, zeros: u8) -> u32
     ensures number { result ≡ opened_number (opened_of (length buffer.now) (setting_of poly init zeros)) }
     ensures record { reader.new ≡ opened_on reader.old (opened_of (length buffer.now) (setting_of poly init zeros)) }
@@ -137,34 +81,47 @@ pub fn mv_open(reader: &mut [u64; 24], buffer: &[u8], poly: u16, init: u16, zero
     let check = Algorithm {
         poly,
         init,
-        zeros: yes(zeros as u64),
+        zeros: yes(u64::from(zeros)),
     };
-    let opened = Extractor::open(buffer, check);
-    opened_on(reader, opened);
-    opened_number(opened)
+    match Extractor::open(buffer, check) {
+        Ok(extractor) => {
+            reader_on(reader, extractor);
+            0
+        }
+        Err(refusal) => number(refusal), // the buffer's length
+    }
 }
 
 // A piece behind the unread bytes; numbers 0 to 4.
+#[tactic(auto, unfolding(crate::specs::Answers::pushed_on))]
 pub fn mv_push_bytes(reader: &mut [u64; 24], buffer: &mut [u8], piece: &[u8]) -> u32
     ensures number { result ≡ push_number (pushed_of (reader_of reader.old) (length buffer.old) (length piece.now)).answer }
     ensures record { reader.new ≡ pushed_on reader.old (pushed_of (reader_of reader.old) (length buffer.old) (length piece.now)) }
     ensures holds { buffer.new ≡ buffer_of (reader_of reader.old) buffer.old piece.now }
 {
     let pushed = reader_of(reader).push_bytes(buffer, piece);
-    pushed_on(reader, pushed)
+    match pushed.answer {
+        Ok(()) => {
+            placed_on(reader, pushed.extractor);
+            0
+        }
+        Err(refusal) => number(refusal), // and no word is written
+    }
 }
 
 // One request: a unit as number 0, or numbers 1, 5, 6, 7, 8.
+#[tactic(auto, using(crate::proofs::Ways::unwritten), unfolding(crate::specs::Answers::asked_on, crate::specs::Answers::asked_unit))]
 pub fn mv_next(reader: &mut [u64; 24], buffer: &[u8], unit: &mut [u64; 24]) -> u32
     ensures number { result ≡ asked_number (asked_of (reader_of reader.old) buffer.now).answer }
     ensures record { reader.new ≡ asked_on reader.old (asked_number (asked_of (reader_of reader.old) buffer.now).answer) (asked_of (reader_of reader.old) buffer.now).extractor }
     ensures unit { unit.new ≡ asked_unit unit.old (asked_of (reader_of reader.old) buffer.now).answer }
 {
     let asked = reader_of(reader).next(buffer);
-    let e = asked.extractor;
-    let answer = asked.answer;
-    let number = asked_number(answer);
-    spoken_on(unit, answer);
-    asked_on(reader, number, e);
-    number
+    match asked.answer {
+        Ok(answer) => {
+            left_on(reader, asked.extractor);
+            spoken_on(unit, answer)
+        }
+        Err(refusal) => number(refusal), // number 1, and no word is written
+    }
 }

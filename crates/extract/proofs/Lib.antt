@@ -1,5 +1,4 @@
 pub mod One
-pub mod Ways
 mod PushWays
 mod StepWays
 mod NextWays

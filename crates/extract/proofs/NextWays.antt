@@ -18,7 +18,9 @@ use Rattle.rules.proofs.RulesLaws.{reader_laws}
 use Rattle.rules.specs.States.{Fit}
 use Rattle.rules.proofs.FitLaws.{fit_step}
 use Rattle.extract.specs.declared.Extractor.{Extractor}
-use Rattle.extract.specs.declared.Answer.TheVariants.{Unit as AUnit, InvalidAccessUnitLength, ParityCheckFailed, InsufficientData, Quiet as AQuiet, Record}
+use Rattle.extract.specs.declared.Answer.TheVariants.{Unit as AUnit, InvalidAccessUnitLength, ParityCheckFailed, InsufficientData, Quiet as AQuiet}
+use Rattle.extract.specs.declared.Refusal.TheVariants.{Record}
+use Rattle.std.specs.Prelude.{Ok, Err}
 use Rattle.extract.specs.declared.Asked.{Asked}
 use Rattle.extract.specs.declared.step.Outcome.{Outcome}
 use Rattle.extract.specs.declared.step.Outcome.TheVariants.{Dry, Quiet, Handed, TooShort, Failed}
@@ -30,10 +32,10 @@ use Rattle.extract.specs.Calls.{left_at, dry_at, spoken_at, answer_of, answered_
 
 -- the answers that a request leaves
 module _ (r : Extractor) (at : ℕ) (s : Stream) {x : Extractor} (e : x ≡ left_at r (r.unanswered - 1) at s) where
-  pub dry_locked : s.locked ≡ true → ◌≡◌ {A = Asked} (record { extractor = x; answer = InsufficientData }) (dry_at r at s)
+  pub dry_locked : s.locked ≡ true → ◌≡◌ {A = Asked} (record { extractor = x; answer = Ok InsufficientData }) (dry_at r at s)
   dry_locked t = rw (e, t)
 
-  pub dry_searching : s.locked ≡ false → ◌≡◌ {A = Asked} (record { extractor = x; answer = AQuiet }) (dry_at r at s)
+  pub dry_searching : s.locked ≡ false → ◌≡◌ {A = Asked} (record { extractor = x; answer = Ok AQuiet }) (dry_at r at s)
   dry_searching f = rw (e, f)
 
 -- the bytes between two places
@@ -143,7 +145,7 @@ some_unanswered (suc n) f = omega arith
 
 -- number 1, and nothing unanswered
 module _ (r : Extractor) (buf : List ℕ) {x : Bool} (e : x ≡ fits_of r (length buf)) where
-  pub asks_not : x ≡ false → ◌≡◌ {A = Asked} (record { extractor = r; answer = Record }) (asked_of r buf)
+  pub asks_not : x ≡ false → ◌≡◌ {A = Asked} (record { extractor = r; answer = Err Record }) (asked_of r buf)
   unfolding asked_of
   asks_not f = rw (← e, f)
 
@@ -151,7 +153,7 @@ module _ (r : Extractor) (buf : List ℕ) {x : Bool} (e : x ≡ fits_of r (lengt
     pub asks_fit : Fits r (length buf)
     asks_fit = fits_says r (length buf) (sym e ∙ t)
 
-    pub asks_nothing : r.unanswered ≡ 0 → ◌≡◌ {A = Asked} (record { extractor = r; answer = AQuiet }) (asked_of r buf)
+    pub asks_nothing : r.unanswered ≡ 0 → ◌≡◌ {A = Asked} (record { extractor = r; answer = Ok AQuiet }) (asked_of r buf)
     unfolding asked_of
     asks_nothing z = rw (← e, t, eq-eqb r.unanswered 0 z)
 

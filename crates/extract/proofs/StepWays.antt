@@ -1,4 +1,5 @@
 -- What each way out of a step shows.
+use Rattle.std.specs.Prelude.{Option, Some, None}
 use Prim.Native.Nat.{ℕ, ◌+◌, ◌-◌, ◌≤◌}
 use native.Mathlib.Omega.{arith}
 use mathlib.Core.Path.{◌≡◌, refl, sym, ap, ◌∙◌}
@@ -9,7 +10,6 @@ use lib.ListN.{length, take, drop, length-drop}
 use lib.Seq.{drop-drop, take_all}
 use Rattle.laws.specs.First.{At}
 use Rattle.machine.specs.Ask.{decide, settle, moved}
-use Rattle.rules.specs.declared.Waiting.{Waiting}
 use Rattle.rules.specs.declared.Loss.{Loss}
 use Rattle.rules.specs.declared.Loss.TheVariants.{Length, Check}
 use Rattle.rules.specs.declared.Stream.{Stream}
@@ -24,12 +24,10 @@ use Rattle.rules.proofs.FindLaws.{found_fits}
 use Rattle.rules.specs.States.{Fit}
 use Rattle.extract.specs.declared.step.Outcome.TheVariants.{Dry, Quiet, Handed, TooShort, Failed as CheckFailed}
 use Rattle.extract.specs.declared.step.Stepped.{Stepped}
-use Rattle.judging.specs.declared.search.Found.{Found}
-use Rattle.judging.specs.declared.search.Found.TheVariants.{At as FoundAt, Nowhere as FoundNowhere}
 use Rattle.judging.specs.declared.search.Judged.{Judged}
-use Rattle.judging.specs.declared.search.Judged.TheVariants.{Given, Missing}
 use Rattle.judging.specs.Means.{found_of, judged_of}
 use Rattle.extract.specs.Steps.{Roomy, Ready, arrived_of, verdict_of, stepped_of, Within, StepsAs, FoundIn}
+use Rattle.timestamp.specs.declared.Timestamp.{Timestamp}
 
 -- a verdict, by its case
 module _ (s : Stream) (before n : ℕ) {v : Verdict} {x : Stream} where
@@ -88,8 +86,8 @@ fit_roomy s n m f l =
     record { bytes = omega arith; frames = omega arith; errors = omega arith }
 
 -- under the lock
-module _ (s : Stream) (u : List ℕ) (locked : s.locked ≡ true) {j : Judged} (ej : judged_of j ≡ decide (unit s.substreams) u) where
-  pub locked_waits : j ≡ Missing → StepsAs s u (record { stream = s; eaten = 0; outcome = Dry })
+module _ (s : Stream) (u : List ℕ) (locked : s.locked ≡ true) {j : Option Judged} (ej : judged_of j ≡ decide (unit s.substreams) u) where
+  pub locked_waits : j ≡ None → StepsAs s u (record { stream = s; eaten = 0; outcome = Dry })
   unfolding settle
   locked_waits q =
       record {
@@ -98,7 +96,7 @@ module _ (s : Stream) (u : List ℕ) (locked : s.locked ≡ true) {j : Judged} (
         within = tt;
       }
 
-  module _ {n : ℕ} {v : Verdict} (q : j ≡ Given n v) where
+  module _ {n : ℕ} {v : Verdict} (q : j ≡ Some (record { eaten = n; verdict = v })) where
     decided : decide (unit s.substreams) u ≡ some (record { eaten = n; answer = v })
     decided = sym ej ∙ ap judged_of q
 
@@ -124,8 +122,8 @@ module _ (s : Stream) (u : List ℕ) (locked : s.locked ≡ true) {j : Judged} (
         })
 
 -- in search
-module _ (s : Stream) (u : List ℕ) (searching : s.locked ≡ false) {f : Found} (ef : found_of f ≡ find u) where
-  pub search_misses : f ≡ FoundNowhere → {gone : ℕ} → gone ≡ length u - keep s.seen → {x : Stream} → x ≡ advance gone s
+module _ (s : Stream) (u : List ℕ) (searching : s.locked ≡ false) {f : Option ℕ} (ef : found_of f ≡ find u) where
+  pub search_misses : f ≡ None → {gone : ℕ} → gone ≡ length u - keep s.seen → {x : Stream} → x ≡ advance gone s
       → StepsAs s u (record { stream = x; eaten = gone; outcome = Dry })
   unfolding search
   search_misses q {gone} g e =
@@ -135,7 +133,7 @@ module _ (s : Stream) (u : List ℕ) (searching : s.locked ≡ false) {f : Found
         within = tt;
       }
 
-  pub found_in : {n : ℕ} → f ≡ FoundAt n → Fit s (length u) → FoundIn n s u
+  pub found_in : {n : ℕ} → f ≡ Some n → Fit s (length u) → FoundIn n s u
   found_in {n} q fit =
       let e : find u ≡ At n = sym ef ∙ ap found_of q in
       record { found = e; inside = found_fits u n e; searching = searching; roomy = fit_roomy s (length u) (length u) fit (omega arith) }
@@ -146,15 +144,15 @@ module _ (n : ℕ) (s : Stream) (u : List ℕ) (f : FoundIn n s u) where
   unfolding search
   searched = step_searching s u f.searching ∙ ap (search s u) f.found
 
-  module _ {w : Waiting} (ew : w ≡ stamp_at s.seen n u s.waiting) {at : Stream} (ea : at ≡ arrived_of n s w) where
+  module _ {w : Option Timestamp} (ew : w ≡ stamp_at s.seen n u s.waiting) {at : Stream} (ea : at ≡ arrived_of n s w) where
     arrived : at ≡ arrive n u s
     arrived = ea ∙ rw ew
 
-    behind : (j : Judged) → judged_of j ≡ decide (candidate s.check) (take (length u - n) (drop n u)) → judged_of j ≡ decide (candidate s.check) (drop n u)
+    behind : (j : Option Judged) → judged_of j ≡ decide (candidate s.check) (take (length u - n) (drop n u)) → judged_of j ≡ decide (candidate s.check) (drop n u)
     behind j e = e ∙ ap (decide (candidate s.check)) (take_all (length u - n) (drop n u) (rw (length-drop n u) (omega arith)))
 
-    module _ (j : Judged) (ej : judged_of j ≡ decide (candidate s.check) (take (length u - n) (drop n u))) where
-      pub search_waits : j ≡ Missing → StepsAs s u (record { stream = at; eaten = n; outcome = Dry })
+    module _ (j : Option Judged) (ej : judged_of j ≡ decide (candidate s.check) (take (length u - n) (drop n u))) where
+      pub search_waits : j ≡ None → StepsAs s u (record { stream = at; eaten = n; outcome = Dry })
       unfolding settle
       search_waits p =
           let l = f.inside in
@@ -164,7 +162,7 @@ module _ (n : ℕ) (s : Stream) (u : List ℕ) (f : FoundIn n s u) where
             within = tt;
           }
 
-      module _ {k : ℕ} {v : Verdict} (p : j ≡ Given k v) where
+      module _ {k : ℕ} {v : Verdict} (p : j ≡ Some (record { eaten = k; verdict = v })) where
         judged : decide (candidate s.check) (drop n u) ≡ some (record { eaten = k; answer = v })
         judged = sym (behind j ej) ∙ ap judged_of p
 

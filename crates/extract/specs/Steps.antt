@@ -1,9 +1,8 @@
 -- A step of the code in the rules' words: definitions only.
-use Rattle.std.specs.Prelude.{ℕ, ◌+◌, ◌≤◌, ◌≡◌, true, false, List, length, drop}
+use Rattle.std.specs.Prelude.{ℕ, ◌+◌, ◌≤◌, ◌≡◌, true, false, List, length, drop, Option, Some, None}
 use Rattle.laws.specs.First.{At}
 use Rattle.rules.specs.Search.{find}
 use Rattle.machine.specs.Step.{Step, dry, quiet, speak}
-use Rattle.rules.specs.declared.Waiting.{Waiting}
 use Rattle.rules.specs.declared.Loss.TheVariants.{Length, Check}
 use Rattle.rules.specs.declared.Stream.{Stream}
 use Rattle.rules.specs.declared.Verdict.{Verdict}
@@ -13,7 +12,7 @@ use Rattle.extract.specs.declared.step.Outcome.{Outcome}
 use Rattle.extract.specs.declared.step.Outcome.TheVariants.{Dry, Quiet, Handed, TooShort, Failed as CheckFailed}
 use Rattle.extract.specs.declared.step.Stepped.{Stepped}
 use Rattle.judging.specs.declared.search.Judged.{Judged}
-use Rattle.judging.specs.declared.search.Judged.TheVariants.{Given, Missing}
+use Rattle.timestamp.specs.declared.Timestamp.{Timestamp}
 
 -- n more bytes, one more frame or one more error fit the counts
 pub record Roomy (s : Stream) (n : ℕ) : Type 0 where
@@ -28,7 +27,7 @@ pub record Ready (s : Stream) (before n : ℕ) : Type 0 where
   pub whole : n ≤ 8190
 
 -- at a candidate n bytes on, where w waits
-abbrev pub arrived_of : ℕ → Stream → Waiting → Stream
+abbrev pub arrived_of : ℕ → Stream → Option Timestamp → Stream
 arrived_of n s w =
     record {
       consumed = record { 0 = s.consumed.0 + n };
@@ -49,9 +48,9 @@ verdict_of s before n (Short a m) = record { stream = lose Length n s; eaten = b
 verdict_of s before n Failed = record { stream = lose Check n s; eaten = before + n; outcome = CheckFailed }
 verdict_of s before n (Whole major) = record { stream = pass_on n s; eaten = before + n; outcome = Handed (unit_of s n major) }
 
-unfoldable pub settled_of : Stream → ℕ → Judged → Stepped
-settled_of s before (Given n v) = verdict_of s before n v
-settled_of s before Missing = record { stream = s; eaten = before; outcome = Dry }
+unfoldable pub settled_of : Stream → ℕ → Option Judged → Stepped
+settled_of s before (Some j) = verdict_of s before j.eaten j.verdict
+settled_of s before None = record { stream = s; eaten = before; outcome = Dry }
 
 -- the rules' step that an outcome is
 abbrev pub outcome_of : Outcome → Stream → List ℕ → Step Stream Event

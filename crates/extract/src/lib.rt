@@ -8,15 +8,17 @@ ghost use Rattle.machine.specs.Scan.{request as requestOf};
 ghost use Rattle.rules.specs.Request.{reader};
 ghost use Rattle.extract.specs.Record.{room_fits, record_fits, fits_of, unread};
 ghost use Rattle.extract.specs.Fits.{Fits};
-ghost use Rattle.extract.specs.Calls.{opened_of, pushed_of, buffer_of, left_at, dry_at, spoken_at, answered_of, asked_of};
+ghost use Rattle.extract.specs.Calls.{refusal_number, opened_of, pushed_on, pushed_of, buffer_of, left_at, dry_at, spoken_at, answered_of, asked_of};
 
 mod step;
 
-use crate::step::{Outcome, step};
-use buffer::{Placed, place};
+use crate::step::{Front, Outcome};
+use buffer::place;
 use crc::Algorithm;
 use kinds::BytePosition;
-use rules::{Losses, Stream, Unit, Waiting};
+use rules::{Losses, Stream, Unit};
+use std::error::Error;
+use std::fmt;
 
 // The reader's record: where the unread bytes stand in the lent buffer, how many bytes it accepted, how many pushes are unanswered, and the
 // stream.
@@ -29,6 +31,42 @@ pub struct Extractor {
     pub stream: Stream,
 }
 
+// Why a call is refused: the record doesn't fit, too many pushes are unanswered, the total would pass its limit, no room.
+#[derive(Clone, Copy, Debug, PartialEq, Eq)]
+pub enum Refusal {
+    Record,
+    Pushes,
+    Total,
+    Room,
+}
+
+// The number that the desk sees.
+impl From<Refusal> for u8 {
+    ghost from_gives = { λ e n. n ≡ refusal_number e };
+
+    fn from(refusal: Refusal) -> u8 {
+        match refusal {
+            Refusal::Record => 1,
+            Refusal::Pushes => 2,
+            Refusal::Total => 3,
+            Refusal::Room => 4,
+        }
+    }
+}
+
+impl fmt::Display for Refusal {
+    fn fmt<W: fmt::Write>(&self, f: &mut fmt::Formatter<W>) -> fmt::Result {
+        match self {
+            Refusal::Record => write!(f, "the record or the buffer doesn't fit"),
+            Refusal::Pushes => write!(f, "65,535 pushes are unanswered"),
+            Refusal::Total => write!(f, "the accepted total would pass 2^48"),
+            Refusal::Room => write!(f, "the buffer has no room for the piece"),
+        }
+    }
+}
+
+impl Error for Refusal {}
+
 // The answers of a request.
 #[derive(Clone, Copy)]
 pub enum Answer {
@@ -37,129 +75,76 @@ pub enum Answer {
     ParityCheckFailed,
     InsufficientData,
     Quiet,
-    Record,
 }
 
+// The record after a request, and its answer; a refusal leaves the record as it was.
 #[derive(Clone, Copy)]
 pub struct Asked {
     pub extractor: Extractor,
-    pub answer: Answer,
+    pub answer: Result<Answer, Refusal>,
 }
 
-// A reader is opened, or the buffer doesn't fit.
-#[derive(Clone, Copy)]
-pub enum Opened {
-    Open(Extractor),
-    Refused,
-}
-
-// A piece is accepted, or refused: the record doesn't fit, too many pushes are unanswered, the total would pass its limit, no room.
-#[derive(Clone, Copy)]
-pub enum PushAnswer {
-    Accepted,
-    Record,
-    Pushes,
-    Total,
-    Room,
-}
-
+// The record after a push; a refusal leaves it as it was.
 #[derive(Clone, Copy)]
 pub struct Pushed {
     pub extractor: Extractor,
-    pub answer: PushAnswer,
+    pub answer: Result<(), Refusal>,
 }
 
 // Is the accepted total the sum of consumed and unread? Without a sum that could wrap.
 fn adds_up(accepted: u64, consumed: u64, unread: u64) -> bool
     ensures { result ≡ eqb accepted (consumed + unread) }
 {
-    if accepted < consumed {
-        return false;
-    }
-    if accepted - consumed == unread {
-        true
-    } else {
-        false
-    }
+    consumed <= accepted && accepted - consumed == unread
 }
 
 // Are frames and errors together no more than the bytes consumed?
 fn covers(consumed: u64, frames: u64, errors: u64) -> bool
     ensures { result ≡ leb (frames + errors) consumed }
 {
-    if consumed < frames {
-        return false;
-    }
-    if errors <= consumed - frames {
-        true
-    } else {
-        false
-    }
+    frames <= consumed && errors <= consumed - frames
 }
 
 // Is the buffer's length one that a reader takes?
 fn room_fits(n: usize) -> bool
     ensures { result ≡ room_fits n }
 {
-    if n < 8192 {
-        return false;
-    }
-    if 1048576 < n {
-        return false;
-    }
-    true
+    8192 <= n && n <= 1048576
 }
 
 impl Extractor {
     // Number 1, the record's own part: it needs no buffer.
-    #[tactic(auto, using(crate::proofs::Ways::start_past_end, crate::proofs::Ways::miscounted, crate::proofs::Ways::past_the_total, crate::proofs::Ways::overcounted, crate::proofs::Ways::too_many_pushes, crate::proofs::Ways::too_many_substreams))]
+    #[tactic(auto, unfolding(crate::specs::Record::record_fits))]
     pub fn record_fits(self) -> bool
         ensures { result ≡ record_fits self }
     {
         let s = self.stream;
-        if self.end < self.start {
-            return false;
-        }
-        let unread = self.end - self.start;
-        if adds_up(self.accepted, s.consumed.0, unread as u64) {} else {
-            return false;
-        }
-        if 281474976710656 < self.accepted {
-            return false;
-        }
-        if covers(s.consumed.0, s.frames, s.losses.errors) {} else {
-            return false;
-        }
-        if 65535 < self.unanswered {
-            return false;
-        }
-        if 15 < s.substreams {
-            return false;
-        }
-        if s.locked { s.seen } else { true }
+        self.start <= self.end
+            && adds_up(self.accepted, s.consumed.0, (self.end - self.start) as u64)
+            && self.accepted <= 281474976710656
+            && covers(s.consumed.0, s.frames, s.losses.errors)
+            && self.unanswered <= 65535
+            && s.substreams <= 15
+            && (!s.locked || s.seen)
     }
 
     // Number 1: does the record fit a buffer of n bytes?
+    #[tactic(auto, unfolding(crate::specs::Record::fits_of))]
     pub fn fits(self, n: usize) -> bool
         ensures { result ≡ fits_of self n }
     {
-        if self.record_fits() {} else {
-            return false;
-        }
-        if room_fits(n) {} else {
-            return false;
-        }
-        self.end <= n
+        self.record_fits() && room_fits(n) && self.end <= n
     }
 
     // A new reader over a lent buffer of n bytes, with any check setting: number 1 where the buffer's length doesn't fit.
-    pub fn open(buffer: &[u8], check: Algorithm) -> Opened
+    #[tactic(auto, unfolding(crate::specs::Calls::opened_of))]
+    pub fn open(buffer: &[u8], check: Algorithm) -> Result<Extractor, Refusal>
         ensures { result ≡ opened_of (length buffer.now) check }
     {
-        if room_fits(buffer.len()) {} else {
-            return Opened::Refused;
+        if !room_fits(buffer.len()) {
+            return Err(Refusal::Record);
         }
-        Opened::Open(Extractor {
+        Ok(Extractor {
             start: 0,
             end: 0,
             accepted: 0,
@@ -171,49 +156,34 @@ impl Extractor {
                 substreams: 0,
                 locked: false,
                 seen: false,
-                waiting: Waiting::Nothing,
+                waiting: None,
                 check,
             },
         })
     }
 
-    // A piece for a record that fits: numbers 2, 3 and 4, then the piece behind the unread bytes. They stand in the buffer, so that no room is
-    // number 4.
-    fn push_fitting(self, buf: &mut [u8], piece: &[u8]) -> Pushed
-        requires { Fits self (length buf.old) }
-        ensures answer { result ≡ pushed_of self (length buf.old) (length piece.now) }
+    // The record with a piece behind the unread bytes, or the number that refuses it. They stand in the buffer, so that no room is number 4.
+    fn push(self, buf: &mut [u8], piece: &[u8]) -> Result<Extractor, Refusal>
+        ensures answer { pushed_on self result ≡ pushed_of self (length buf.old) (length piece.now) }
         ensures holds { buf.new ≡ buffer_of self buf.old piece.now }
     {
+        if !self.fits(buf.len()) {
+            return Err(Refusal::Record);
+        }
         if 65535 <= self.unanswered {
-            return Pushed {
-                extractor: self,
-                answer: PushAnswer::Pushes,
-            };
+            return Err(Refusal::Pushes);
         }
         if 281474976710656 - self.accepted < piece.len() as u64 {
-            return Pushed {
-                extractor: self,
-                answer: PushAnswer::Total,
-            };
+            return Err(Refusal::Total);
         }
-        let start = self.start;
-        let end = self.end;
-        let unread = end - start;
-        let Placed::At(at) = place(buf, start, end, piece) else {
-            return Pushed {
-                extractor: self,
-                answer: PushAnswer::Room,
-            };
-        };
-        let mut next = self;
-        next.start = at;
-        next.end = at + unread + piece.len();
-        next.accepted = self.accepted + piece.len() as u64;
-        next.unanswered = self.unanswered + 1;
-        Pushed {
-            extractor: next,
-            answer: PushAnswer::Accepted,
-        }
+        let start = place(buf, self.start, self.end, piece).ok_or(Refusal::Room)?;
+        Ok(Extractor {
+            start,
+            end: start + (self.end - self.start) + piece.len(),
+            accepted: self.accepted + piece.len() as u64,
+            unanswered: self.unanswered + 1,
+            ..self
+        })
     }
 
     // A piece behind the unread bytes. Refused, in this order: 1 where the record doesn't fit, 2 where 65,535 pushes are unanswered, 3 where
@@ -222,13 +192,16 @@ impl Extractor {
         ensures answer { result ≡ pushed_of self (length buf.old) (length piece.now) }
         ensures holds { buf.new ≡ buffer_of self buf.old piece.now }
     {
-        if self.fits(buf.len()) {} else {
-            return Pushed {
+        match self.push(buf, piece) {
+            Ok(extractor) => Pushed {
+                extractor,
+                answer: Ok(()),
+            },
+            Err(refusal) => Pushed {
                 extractor: self,
-                answer: PushAnswer::Record,
-            };
+                answer: Err(refusal),
+            },
         }
-        self.push_fitting(buf, piece)
     }
 
     // The record where a request leaves it: the unread bytes start at `at`, and so many pushes are unanswered.
@@ -237,10 +210,9 @@ impl Extractor {
     {
         Extractor {
             start: at,
-            end: self.end,
-            accepted: self.accepted,
             unanswered: pushes,
             stream,
+            ..self
         }
     }
 
@@ -249,17 +221,14 @@ impl Extractor {
         requires { 0 < self.unanswered }
         ensures { result ≡ dry_at self at stream }
     {
-        let extractor = self.left(self.unanswered - 1, at, stream);
-        if stream.locked {
-            Asked {
-                extractor,
-                answer: Answer::InsufficientData,
-            }
+        let answer = if stream.locked {
+            Answer::InsufficientData
         } else {
-            Asked {
-                extractor,
-                answer: Answer::Quiet,
-            }
+            Answer::Quiet
+        };
+        Asked {
+            extractor: self.left(self.unanswered - 1, at, stream),
+            answer: Ok(answer),
         }
     }
 
@@ -269,7 +238,7 @@ impl Extractor {
     {
         Asked {
             extractor: self.left(self.unanswered, at, stream),
-            answer,
+            answer: Ok(answer),
         }
     }
 
@@ -282,33 +251,22 @@ impl Extractor {
         let mut at = self.start;
         let mut stream = self.stream;
         'request: loop {
-            let end = self.end;
-            let stepped = step(stream, &buf[at..end]);
-            let outcome = stepped.outcome;
-            let next = stepped.stream;
+            let unread = &buf[at..self.end];
+            let stepped = Front { stream, unread }.step();
             at += stepped.eaten;
-            match outcome {
-                Outcome::Quiet => {
-                    stream = next;
-                    continue 'request;
-                }
-                Outcome::Dry => {
-                    return self.dry(at, next);
-                }
+            stream = stepped.stream;
+            match stepped.outcome {
+                Outcome::Quiet => {}
+                Outcome::Dry => return self.dry(at, stream),
                 Outcome::Handed(unit) => {
-                    let start = at - unit.length as usize;
-                    return self.spoken(at, next, Answer::Unit { unit, start });
+                    let start = at - usize::from(unit.length);
+                    return self.spoken(at, stream, Answer::Unit { unit, start });
                 }
                 Outcome::TooShort { actual, minimum } => {
-                    return self.spoken(
-                        at,
-                        next,
-                        Answer::InvalidAccessUnitLength { actual, minimum },
-                    );
+                    let short = Answer::InvalidAccessUnitLength { actual, minimum };
+                    return self.spoken(at, stream, short);
                 }
-                Outcome::Failed => {
-                    return self.spoken(at, next, Answer::ParityCheckFailed);
-                }
+                Outcome::Failed => return self.spoken(at, stream, Answer::ParityCheckFailed),
             }
         }
     }
@@ -318,16 +276,16 @@ impl Extractor {
     pub fn next(self, buf: &[u8]) -> Asked
         ensures { result ≡ asked_of self buf.now }
     {
-        if self.fits(buf.len()) {} else {
+        if !self.fits(buf.len()) {
             return Asked {
                 extractor: self,
-                answer: Answer::Record,
+                answer: Err(Refusal::Record),
             };
         }
         if self.unanswered == 0 {
             return Asked {
                 extractor: self,
-                answer: Answer::Quiet,
+                answer: Ok(Answer::Quiet),
             };
         }
         self.request(buf)

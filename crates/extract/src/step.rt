@@ -6,10 +6,11 @@ ghost use Rattle.rules.specs.Search.{keep};
 ghost use Rattle.rules.specs.States.{Fit};
 ghost use Rattle.extract.specs.Steps.{Roomy, Ready, arrived_of, verdict_of, StepsAs, FoundIn};
 
-use judging::search::{Found, Judged, candidate, find, kept, stamp_at};
+use judging::search::{Judged, candidate, find, kept, stamp_at};
 use judging::unit::unit;
 use kinds::BytePosition;
-use rules::{Loss, Losses, Stream, Unit, Verdict, Waiting};
+use rules::{Loss, Losses, Stream, Unit, Verdict};
+use timestamp::Timestamp;
 
 // How a step ends: dry, quiet, or with something spoken.
 #[derive(Clone, Copy)]
@@ -21,6 +22,14 @@ pub enum Outcome {
     Failed,
 }
 
+// A stream and the unread bytes behind what it consumed, few enough to be counted.
+#[derive(Clone, Copy)]
+pub struct Front<'a> {
+    pub stream: Stream,
+    pub unread: &'a [u8],
+    ghost fit: { Fit stream (length unread.now) },
+}
+
 #[derive(Clone, Copy)]
 pub struct Stepped {
     pub stream: Stream,
@@ -29,6 +38,7 @@ pub struct Stepped {
 }
 
 // The one place where a loss is counted.
+#[tactic(auto, unfolding(rules::specs::Request::raise))]
 fn raise(w: Loss, l: Losses) -> Losses
     requires { l.errors ≤ 281474976710656 }
     ensures { result ≡ raiseOf w l }
@@ -38,65 +48,58 @@ fn raise(w: Loss, l: Losses) -> Losses
     }
 }
 
-// n bytes consumed.
-fn advance(n: usize, s: Stream) -> Stream
-    requires { Roomy s n }
-    ensures { result ≡ advanceOf n s }
-{
-    let losses = s.losses;
-    let check = s.check;
-    let waiting = s.waiting;
-    let waiting = kept(n, waiting);
-    Stream {
-        consumed: BytePosition(s.consumed.0 + n as u64),
-        frames: s.frames,
-        losses,
-        substreams: s.substreams,
-        locked: s.locked,
-        seen: s.seen,
-        waiting,
-        check,
-    }
+// A stream, and how many bytes at its front go: no more than its counts have room for.
+#[derive(Clone, Copy)]
+struct Going {
+    stream: Stream,
+    bytes: usize,
+    ghost roomy: { Roomy stream bytes },
 }
 
-// A loss of n bytes: counted, consumed, unlocked.
-fn lose(w: Loss, n: usize, s: Stream) -> Stream
-    requires { Roomy s n }
-    ensures { result ≡ loseOf w n s }
-{
-    let losses = s.losses;
-    let losses = raise(w, losses);
-    let check = s.check;
-    let waiting = s.waiting;
-    let waiting = kept(n, waiting);
-    Stream {
-        consumed: BytePosition(s.consumed.0 + n as u64),
-        frames: s.frames,
-        losses,
-        substreams: s.substreams,
-        locked: false,
-        seen: s.seen,
-        waiting,
-        check,
+impl Going {
+    // Consumed.
+    fn advance(self) -> Stream
+        ensures { result ≡ advanceOf self.bytes self.stream }
+    {
+        Stream {
+            consumed: BytePosition(self.stream.consumed.0 + self.bytes as u64),
+            waiting: kept(self.bytes, self.stream.waiting),
+            ..self.stream
+        }
     }
-}
 
-// At a candidate n bytes on, where `waiting` waits.
-fn arrive(n: usize, s: Stream, waiting: Waiting) -> Stream
-    requires { Roomy s n }
-    ensures { result ≡ arrived_of n s waiting }
-{
-    let losses = s.losses;
-    let check = s.check;
-    Stream {
-        consumed: BytePosition(s.consumed.0 + n as u64),
-        frames: s.frames,
-        losses,
-        substreams: s.substreams,
-        locked: false,
-        seen: true,
-        waiting,
-        check,
+    // Lost: counted, consumed, unlocked.
+    fn lose(self, w: Loss) -> Stream
+        ensures { result ≡ loseOf w self.bytes self.stream }
+    {
+        Stream {
+            losses: raise(w, self.stream.losses),
+            locked: false,
+            ..self.advance()
+        }
+    }
+
+    // What precedes a candidate, where `waiting` waits.
+    fn arrive(self, waiting: Option<Timestamp>) -> Stream
+        ensures { result ≡ arrived_of self.bytes self.stream waiting }
+    {
+        Stream {
+            locked: false,
+            seen: true,
+            waiting,
+            ..self.advance()
+        }
+    }
+
+    // A unit: the timestamp went with it.
+    fn pass_on(self) -> Stream
+        ensures { result ≡ pass_on self.bytes self.stream }
+    {
+        Stream {
+            frames: self.stream.frames + 1,
+            waiting: None,
+            ..self.advance()
+        }
     }
 }
 
@@ -104,37 +107,39 @@ fn arrive(n: usize, s: Stream, waiting: Waiting) -> Stream
 fn lock(k: u8, s: Stream) -> Stream
     ensures { result ≡ lockOf k s }
 {
-    let mut next = s;
-    next.substreams = k;
-    next.locked = true;
-    next
+    Stream {
+        substreams: k,
+        locked: true,
+        ..s
+    }
 }
 
-// After a unit of n bytes: the timestamp went with it.
-fn pass_on(n: usize, s: Stream) -> Stream
-    requires { Roomy s n }
-    ensures { result ≡ pass_on n s }
+// The unit of n bytes at the front.
+fn handed(s: Stream, n: usize, major: bool) -> Unit
+    requires { Ready s 0 n }
+    ensures { result ≡ unit_of s n major }
 {
-    let losses = s.losses;
-    let check = s.check;
-    Stream {
-        consumed: BytePosition(s.consumed.0 + n as u64),
-        frames: s.frames + 1,
-        losses,
+    Unit {
+        index: s.frames,
+        position: s.consumed,
+        length: n as u16,
+        major,
         substreams: s.substreams,
-        locked: s.locked,
-        seen: s.seen,
-        waiting: Waiting::Nothing,
-        check,
+        waiting: s.waiting,
     }
 }
 
 // What a verdict that eats n bytes does, behind the bytes that the search consumed.
+#[tactic(auto, using(crate::proofs::StepWays::does_shorten, crate::proofs::StepWays::does_fail, crate::proofs::StepWays::does_hand))]
 fn act(s: Stream, before: usize, n: usize, v: Verdict) -> Stepped
     requires { Ready s before n }
     ensures { result ≡ verdict_of s before n v }
 {
     let eaten = before + n;
+    let going = Going {
+        stream: s,
+        bytes: n,
+    };
     match v {
         Verdict::Lock(k) => Stepped {
             stream: lock(k, s),
@@ -142,114 +147,100 @@ fn act(s: Stream, before: usize, n: usize, v: Verdict) -> Stepped
             outcome: Outcome::Quiet,
         },
         Verdict::Lost(w) => Stepped {
-            stream: lose(w, n, s),
+            stream: going.lose(w),
             eaten,
             outcome: Outcome::Quiet,
         },
         Verdict::Short { actual, minimum } => Stepped {
-            stream: lose(Loss::Length, n, s),
+            stream: going.lose(Loss::Length),
             eaten,
             outcome: Outcome::TooShort { actual, minimum },
         },
         Verdict::Failed => Stepped {
-            stream: lose(Loss::Check, n, s),
+            stream: going.lose(Loss::Check),
             eaten,
             outcome: Outcome::Failed,
         },
-        Verdict::Whole { major } => {
-            let position = s.consumed;
-            let waiting = s.waiting;
-            let unit = Unit {
-                index: s.frames,
-                position,
-                length: n as u16,
-                major,
-                substreams: s.substreams,
-                waiting,
-            };
-            Stepped {
-                stream: pass_on(n, s),
-                eaten,
-                outcome: Outcome::Handed(unit),
-            }
-        }
+        Verdict::Whole { major } => Stepped {
+            stream: going.pass_on(),
+            eaten,
+            outcome: Outcome::Handed(handed(s, n, major)),
+        },
     }
-}
-
-// Under the lock: the unit at the front.
-fn locked_step(s: Stream, u: &[u8]) -> Stepped
-    requires fit { Fit s (length u.now) }
-    requires locked { s.locked ≡ true }
-    ensures { StepsAs s u.now result }
-{
-    let Judged::Given { eaten, verdict } = unit(s.substreams, u) else {
-        return Stepped {
-            stream: s,
-            eaten: 0,
-            outcome: Outcome::Dry,
-        };
-    };
-    act(s, 0, eaten, verdict)
-}
-
-// What n is above a limit, 0 where it isn't.
-fn beyond(n: usize, limit: usize) -> usize
-    ensures { result ≡ n - limit }
-{
-    if n < limit { 0 } else { n - limit }
 }
 
 // How many bytes go where no candidate is found: the last 23 are kept before any sync was ever seen, afterwards the last 7.
 fn discarded(n: usize, seen: bool) -> usize
     ensures { result ≡ n - keep seen }
 {
-    if seen { beyond(n, 7) } else { beyond(n, 23) }
+    n.saturating_sub(if seen { 7 } else { 23 })
 }
 
-// At the candidate that was found n bytes on: what precedes it is consumed, then it is judged.
-fn at_candidate(n: usize, s: Stream, u: &[u8]) -> Stepped
-    requires { FoundIn n s u.now }
-    ensures { StepsAs s u.now result }
-{
-    let check = s.check;
-    let waiting = s.waiting;
-    let stamp = stamp_at(s.seen, n, u, waiting);
-    let at = arrive(n, s, stamp);
-    let Judged::Given { eaten, verdict } = candidate(check, &u[n..]) else {
-        return Stepped {
-            stream: at,
-            eaten: n,
-            outcome: Outcome::Dry,
+impl Front<'_> {
+    // Under the lock: the unit at the front.
+    fn locked_step(self) -> Stepped
+        requires { self.stream.locked ≡ true }
+        ensures { StepsAs self.entry.stream self.entry.unread.now result }
+    {
+        let Some(Judged { eaten, verdict }) = unit(self.stream.substreams, self.unread) else {
+            return Stepped {
+                stream: self.stream,
+                eaten: 0,
+                outcome: Outcome::Dry,
+            };
         };
-    };
-    act(at, n, eaten, verdict)
-}
+        act(self.stream, 0, eaten, verdict)
+    }
 
-// Without a lock: the first candidate, or dry with what has to be kept.
-fn search_step(s: Stream, u: &[u8]) -> Stepped
-    requires fit { Fit s (length u.now) }
-    requires unlocked { s.locked ≡ false }
-    ensures { StepsAs s u.now result }
-{
-    let Found::At(n) = find(u) else {
-        let gone = discarded(u.len(), s.seen);
-        return Stepped {
-            stream: advance(gone, s),
-            eaten: gone,
-            outcome: Outcome::Dry,
+    // At the candidate that was found n bytes on: what precedes it is consumed, then it is judged.
+    fn at_candidate(self, n: usize) -> Stepped
+        requires { FoundIn n self.stream self.unread.now }
+        ensures { StepsAs self.entry.stream self.entry.unread.now result }
+    {
+        let s = self.stream;
+        let before = Going {
+            stream: s,
+            bytes: n,
         };
-    };
-    at_candidate(n, s, u)
-}
+        let at = before.arrive(stamp_at(s.seen, n, self.unread, s.waiting));
+        let Some(Judged { eaten, verdict }) = candidate(s.check, &self.unread[n..]) else {
+            return Stepped {
+                stream: at,
+                eaten: n,
+                outcome: Outcome::Dry,
+            };
+        };
+        act(at, n, eaten, verdict)
+    }
 
-// One step.
-pub fn step(s: Stream, u: &[u8]) -> Stepped
-    requires { Fit s (length u.now) }
-    ensures { StepsAs s u.now result }
-{
-    if s.locked {
-        locked_step(s, u)
-    } else {
-        search_step(s, u)
+    // Without a lock: the first candidate, or dry with what has to be kept.
+    fn search_step(self) -> Stepped
+        requires { self.stream.locked ≡ false }
+        ensures { StepsAs self.entry.stream self.entry.unread.now result }
+    {
+        let Some(n) = find(self.unread) else {
+            let gone = discarded(self.unread.len(), self.stream.seen);
+            let going = Going {
+                stream: self.stream,
+                bytes: gone,
+            };
+            return Stepped {
+                stream: going.advance(),
+                eaten: gone,
+                outcome: Outcome::Dry,
+            };
+        };
+        self.at_candidate(n)
+    }
+
+    // One step.
+    pub fn step(self) -> Stepped
+        ensures { StepsAs self.entry.stream self.entry.unread.now result }
+    {
+        if self.stream.locked {
+            self.locked_step()
+        } else {
+            self.search_step()
+        }
     }
 }

@@ -1,12 +1,13 @@
 -- A reader with its lent buffer, and its calls as the code's contracts give them: definitions only.
-use Rattle.std.specs.Prelude.{ℕ, not, List, eqb, length}
+use Rattle.std.specs.Prelude.{ℕ, not, List, eqb, length, Result, Ok, Err}
 use Rattle.machine.specs.History.{Pushed, taken, refused, Asked, dried, told, Calls, View}
 use Rattle.crc.specs.declared.Algorithm.{Algorithm}
 use Rattle.rules.specs.declared.Stream.{Stream}
 use Rattle.rules.specs.Request.{Event, handed, too_short, failed}
 use Rattle.extract.specs.declared.Extractor.{Extractor}
 use Rattle.extract.specs.declared.Answer.{Answer}
-use Rattle.extract.specs.declared.Answer.TheVariants.{Unit, InvalidAccessUnitLength, ParityCheckFailed, InsufficientData, Quiet, Record}
+use Rattle.extract.specs.declared.Answer.TheVariants.{Unit, InvalidAccessUnitLength, ParityCheckFailed, InsufficientData, Quiet}
+use Rattle.extract.specs.declared.Refusal.{Refusal}
 use Rattle.extract.specs.Record.{unread, opened}
 use Rattle.extract.specs.Fits.{Fits}
 use Rattle.extract.specs.Calls.{on_accepted, pushed_of, buffer_of, asked_of}
@@ -27,13 +28,13 @@ push_of h p =
     (record { extractor = (pushed_of h.extractor (length h.buffer) (length p)).extractor; buffer = buffer_of h.extractor h.buffer p }))
 
 -- what an answer tells: a unit, or number 5 or 6 with its values and the position after it; the others tell nothing
-abbrev pub tell_of : Answer → Held → Asked Held Event
-tell_of (Unit unit start) h = told (handed unit) h
-tell_of (InvalidAccessUnitLength actual minimum) h = told (too_short actual minimum h.extractor.stream.consumed) h
-tell_of ParityCheckFailed h = told (failed h.extractor.stream.consumed) h
-tell_of InsufficientData h = dried h
-tell_of Quiet h = dried h
-tell_of Record h = dried h
+abbrev pub tell_of : Result Answer Refusal → Held → Asked Held Event
+tell_of (Ok (Unit unit start)) h = told (handed unit) h
+tell_of (Ok (InvalidAccessUnitLength actual minimum)) h = told (too_short actual minimum h.extractor.stream.consumed) h
+tell_of (Ok ParityCheckFailed) h = told (failed h.extractor.stream.consumed) h
+tell_of (Ok InsufficientData) h = dried h
+tell_of (Ok Quiet) h = dried h
+tell_of (Err e) h = dried h
 
 -- `next`, by its contract; it writes nothing in the buffer
 unfoldable pub next_of : Held → Asked Held Event

@@ -1,6 +1,6 @@
 -- The reader's calls follow the rules: a piece that is taken stands behind the unread bytes, a request is the rules' request, and a record that
 -- fits still fits.
-use Rattle.std.specs.Prelude.{ℕ, ◌+◌, ◌-◌, ◌≤◌, ◌<◌, ◌≡◌, Bool, List, [], ◌++◌, leb, ltb, take, drop}
+use Rattle.std.specs.Prelude.{ℕ, ◌+◌, ◌-◌, ◌≤◌, ◌<◌, ◌≡◌, Bool, List, [], ◌++◌, leb, ltb, take, drop, Result, Ok, Err}
 use Rattle.std.proofs.Common.{arith, ap₂, ◌∙◌, subst, length-append, length-drop, leb-true, ltb-true, ne_eqb}
 use Rattle.std.proofs.Math.Path.{refl, sym, ap}
 use Rattle.std.proofs.Math.Bool.{true, false, not}
@@ -32,10 +32,10 @@ use Rattle.rules.specs.States.{Fit, at}
 use Rattle.rules.proofs.FitLaws.{fit_step, reader_counts}
 use Rattle.buffer.specs.Laws.{start_inside}
 use Rattle.extract.specs.declared.Extractor.{Extractor}
-use Rattle.extract.specs.declared.PushAnswer.{PushAnswer}
-use Rattle.extract.specs.declared.PushAnswer.TheVariants.{Accepted, Record, Pushes, Total, Room}
+use Rattle.extract.specs.declared.Refusal.{Refusal}
+use Rattle.extract.specs.declared.Refusal.TheVariants.{Record, Pushes, Total, Room}
 use Rattle.extract.specs.declared.Answer.{Answer}
-use Rattle.extract.specs.declared.Answer.TheVariants.{Unit as AUnit, InvalidAccessUnitLength, ParityCheckFailed, InsufficientData, Quiet, Record as BadRecord}
+use Rattle.extract.specs.declared.Answer.TheVariants.{Unit as AUnit, InvalidAccessUnitLength, ParityCheckFailed, InsufficientData, Quiet}
 use Rattle.extract.specs.Record.{most, fits_of, unread_of, unread}
 use Rattle.extract.specs.Fits.{Fits, fits_when}
 use Rattle.extract.specs.Calls.{push_answer_of, place_of, grown, on_accepted, pushed_of, buffer_of, left_at, answer_of, answered_of, asked_of}
@@ -49,14 +49,14 @@ pub record Taken (r : Extractor) (n k : ℕ) : Type 0 where
   pub total : r.accepted + k ≤ most
   pub room : unread_of r + k ≤ n
 
-accepted_by : (f u t m : Bool) → pick f (pick u (pick t (pick m Accepted Room) Total) Pushes) Record ≡ Accepted → (u ≡ true) × (t ≡ true) × (m ≡ true)
+accepted_by : (f u t m : Bool) → ◌≡◌ {A = Result (Unit {0}) Refusal} (pick f (pick u (pick t (pick m (Ok tt) (Err Room)) (Err Total)) (Err Pushes)) (Err Record)) (Ok tt) → (u ≡ true) × (t ≡ true) × (m ≡ true)
 accepted_by true true true true e = (refl, refl, refl)
 accepted_by true true true false e = (cc, cc, cc)
 accepted_by true true false m e = (cc, cc, cc)
 accepted_by true false t m e = (cc, cc, cc)
 accepted_by false u t m e = (cc, cc, cc)
 
-pub accepted_says : (r : Extractor) (n k : ℕ) → push_answer_of r n k ≡ Accepted → Taken r n k
+pub accepted_says : (r : Extractor) (n k : ℕ) → push_answer_of r n k ≡ Ok tt → Taken r n k
 unfolding push_answer_of
 accepted_says r n k e =
     let w = accepted_by (fits_of r n) (ltb r.unanswered 65535) (leb (r.accepted + k) most) (leb (unread_of r + k) n) e in
@@ -119,15 +119,12 @@ module _ (h : Held) (p : List ℕ) (fit : Fits h.extractor (length h.buffer)) wh
   unfolding push_of pushed_of buffer_of
   takes = go (push_answer_of r n k) refl
     where
-      go : (a : PushAnswer) → push_answer_of r n k ≡ a
+      go : (a : Result (Unit {0}) Refusal) → push_answer_of r n k ≡ a
           → Takes view h p
           (on_accepted a (taken (record { extractor = on_accepted a (grown r (place_of r n k) k) r; buffer = on_accepted a (paste h.buffer (place_of r n k) (unread r h.buffer ++ p)) h.buffer }))
           (refused (record { extractor = on_accepted a (grown r (place_of r n k) k) r; buffer = on_accepted a (paste h.buffer (place_of r n k) (unread r h.buffer ++ p)) h.buffer })))
-      go Accepted e = grows (accepted_says r n k e)
-      go Record e = refl
-      go Pushes e = refl
-      go Total e = refl
-      go Room e = refl
+      go (Ok tt) e = grows (accepted_says r n k e)
+      go (Err x) e = refl
 
 -- 2. A REQUEST
 
@@ -244,7 +241,7 @@ module _ (h : Held) (fit : Fits h.extractor (length h.buffer)) where
   unfolding answered_of
   answers_by some (ran_dry s u) e l p = dry_by s.locked
     where
-      dry_by : (b : Bool) → Answers reader view h true (tell_of (pick b InsufficientData Quiet) (held_at s u (r₁.unanswered - 1)))
+      dry_by : (b : Bool) → Answers reader view h true (tell_of (Ok (pick b InsufficientData Quiet)) (held_at s u (r₁.unanswered - 1)))
       dry_by true = (ap (ran_dry s) (left_unread s u l (r₁.unanswered - 1)) ∙ sym e, left_fits s u l (r₁.unanswered - 1) (let q = fit.itself.pushes in omega arith))
       dry_by false = (ap (ran_dry s) (left_unread s u l (r₁.unanswered - 1)) ∙ sym e, left_fits s u l (r₁.unanswered - 1) (let q = fit.itself.pushes in omega arith))
   answers_by some (spoke x s u) e l p = spoken_by_lem x e p
@@ -253,7 +250,7 @@ module _ (h : Held) (fit : Fits h.extractor (length h.buffer)) where
       stays = (left_fits s u l r₁.unanswered fit.itself.pushes, ap not (ne_eqb r₁.unanswered 0 some))
 
       spoken_by_lem : (x : Event) → request reader r₁.stream (unread r₁ h.buffer) ≡ spoke x s u → SpokenAt x s
-          → Answers reader view h true (tell_of (answer_of (r₁.end - length u) x) (held_at s u r₁.unanswered))
+          → Answers reader view h true (tell_of (Ok (answer_of (r₁.end - length u) x)) (held_at s u r₁.unanswered))
       spoken_by_lem (handed y) e p = (ap (spoke (handed y) s) (left_unread s u l r₁.unanswered) ∙ sym e, stays)
       spoken_by_lem (too_short a m q) e p =
           (ap₂ (λ z w. spoke (too_short a m z) s w) (sym p) (left_unread s u l r₁.unanswered) ∙ sym e, stays)
@@ -269,8 +266,8 @@ module _ (h : Held) (fit : Fits h.extractor (length h.buffer)) where
     where
       go : (b : Bool) → eqb r₁.unanswered 0 ≡ b
           → Answers reader view h (not b)
-          (tell_of (pick b (record { extractor = r₁; answer = Quiet }) (answered_of r₁ whole)).answer
-          (record { extractor = (pick b (record { extractor = r₁; answer = Quiet }) (answered_of r₁ whole)).extractor; buffer = h.buffer }))
+          (tell_of (pick b (record { extractor = r₁; answer = Ok Quiet }) (answered_of r₁ whole)).answer
+          (record { extractor = (pick b (record { extractor = r₁; answer = Ok Quiet }) (answered_of r₁ whole)).extractor; buffer = h.buffer }))
       go true e = refl
       go false e =
           answers_by (eqb-false r₁.unanswered 0 e) whole refl (leaves whole refl) (asks_speak_at r₁.stream (unread r₁ h.buffer) whole (request_asks reader reader_laws r₁.stream (unread r₁ h.buffer)))
@@ -308,14 +305,14 @@ opens a buffer low high =
     }
 
 -- a request leaves the buffer as it was
-tells_on : (l : Log Held Event) (b : List ℕ) (a : Answer) (x : Held) → x.buffer ≡ b → (after_next l (tell_of a x)).now.buffer ≡ b
+tells_on : (l : Log Held Event) (b : List ℕ) (a : Result Answer Refusal) (x : Held) → x.buffer ≡ b → (after_next l (tell_of a x)).now.buffer ≡ b
 unfolding after_next
-tells_on l b (AUnit u s) x e = e
-tells_on l b (InvalidAccessUnitLength n m) x e = e
-tells_on l b ParityCheckFailed x e = e
-tells_on l b InsufficientData x e = e
-tells_on l b Quiet x e = e
-tells_on l b BadRecord x e = e
+tells_on l b (Ok (AUnit u s)) x e = e
+tells_on l b (Ok (InvalidAccessUnitLength n m)) x e = e
+tells_on l b (Ok ParityCheckFailed) x e = e
+tells_on l b (Ok InsufficientData) x e = e
+tells_on l b (Ok Quiet) x e = e
+tells_on l b (Err r) x e = e
 
 pub next_writes_nothing : (l : Log Held Event) → (turn calls l ask).now.buffer ≡ l.now.buffer
 unfolding turn next_of

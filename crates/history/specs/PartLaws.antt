@@ -24,6 +24,9 @@ use Rattle.rules.specs.Units.{IfUnit, Hands}
 use Rattle.rules.proofs.OutcomeLaws.{step_hands}
 use Rattle.buffer.specs.Calls.{part_of}
 use Rattle.extract.specs.declared.Extractor.{Extractor}
+use Rattle.std.specs.Prelude.{Result, Ok}
+use Rattle.extract.specs.declared.Answer.{Answer}
+use Rattle.extract.specs.declared.Refusal.{Refusal}
 use Rattle.extract.specs.declared.Answer.TheVariants.{Unit as AUnit, InsufficientData, Quiet}
 use Rattle.extract.specs.Record.{unread_of, unread}
 use Rattle.extract.specs.Fits.{Fits, fits_when}
@@ -72,11 +75,11 @@ module _ (h : Held) (fit : Fits h.extractor (length h.buffer)) (accepted : List 
       ∙ ap (take x.length) (drop-drop d (at r.stream) accepted)
       ∙ ap (λ (k : ℕ). part accepted k x.length) there)
 
-  by_answer : (a : Scan.Answer Stream Event) → request reader r.stream (unread r h.buffer) ≡ a → (answered_of r a).answer ≡ AUnit x start → Holds
+  by_answer : (a : Scan.Answer Stream Event) → request reader r.stream (unread r h.buffer) ≡ a → (answered_of r a).answer ≡ Ok (AUnit x start) → Holds
   unfolding answered_of
   by_answer (ran_dry s u) e q = absurd (never s.locked q)
     where
-      never : (b : Bool) → pick b InsufficientData Quiet ≡ AUnit x start → ⊥
+      never : (b : Bool) → ◌≡◌ {A = Result Answer Refusal} (Ok (pick b InsufficientData Quiet)) (Ok (AUnit x start)) → ⊥
       never true p = let z : ◌≡◌ {A = ℕ} 0 1 = cc in omega arith
       never false p = let z : ◌≡◌ {A = ℕ} 0 1 = cc in omega arith
   by_answer (spoke (handed y) s u) e q =
@@ -87,11 +90,11 @@ module _ (h : Held) (fit : Fits h.extractor (length h.buffer)) (accepted : List 
   by_answer (spoke (failed p) s u) e q = absurd (let z : ◌≡◌ {A = ℕ} 0 1 = cc in omega arith)
 
   -- Where a request answers a unit and its stretch, `part` gives the accepted bytes at the unit's position.
-  pub part_is_the_unit : (asked_of r h.buffer).answer ≡ AUnit x start → Holds
+  pub part_is_the_unit : (asked_of r h.buffer).answer ≡ Ok (AUnit x start) → Holds
   unfolding asked_of
   part_is_the_unit q = go (eqb r.unanswered 0) refl (rw (fits_when r (length h.buffer) fit) at q)
     where
       go : (b : Bool) → eqb r.unanswered 0 ≡ b
-          → (pick b (record { extractor = r; answer = Quiet }) (answered_of r (request reader r.stream (unread r h.buffer)))).answer ≡ AUnit x start → Holds
+          → (pick b (record { extractor = r; answer = Ok Quiet }) (answered_of r (request reader r.stream (unread r h.buffer)))).answer ≡ Ok (AUnit x start) → Holds
       go true e p = absurd (let z : ◌≡◌ {A = ℕ} 0 1 = cc in omega arith)
       go false e p = by_answer (request reader r.stream (unread r h.buffer)) refl p

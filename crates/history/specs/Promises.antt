@@ -21,6 +21,7 @@ use Rattle.rules.specs.Units.{IfUnit, Promised, Follows as Behind, Indexed}
 use Rattle.rules.proofs.StampLaws.{standing_lasts}
 use Rattle.rules.proofs.HandedLaws.{units_stand, units_apart, units_numbered, new_stands}
 use Rattle.buffer.specs.Calls.{part_of}
+use Rattle.std.specs.Prelude.{Ok}
 use Rattle.extract.specs.declared.Answer.TheVariants.{Unit as AUnit}
 use Rattle.extract.specs.Calls.{asked_of}
 use Rattle.extract.specs.Record.{fits_of, unread_of, unread, errors_of}
@@ -90,7 +91,7 @@ module _ (a : Algorithm) (buffer : List ℕ) (low : 8192 ≤ length buffer) (hig
 
   -- The stretch that a request answers with a unit holds, through `part`, the accepted bytes at the unit's position; a request writes nothing in the
   -- buffer, so it does until the next accepted piece.
-  pub part_holds_the_unit : (cs : List Call) (x : TheUnit) (start : ℕ) → (asked_of (log cs).now.extractor (log cs).now.buffer).answer ≡ AUnit x start
+  pub part_holds_the_unit : (cs : List Call) (x : TheUnit) (start : ℕ) → (asked_of (log cs).now.extractor (log cs).now.buffer).answer ≡ Ok (AUnit x start)
       → part_of (log cs).now.buffer start x.length ≡ part (log cs).accepted x.position.0 x.length
   part_holds_the_unit cs x start =
       part_is_the_unit (log cs).now (always_fits cs) (log cs).accepted

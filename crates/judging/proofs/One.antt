@@ -4,10 +4,9 @@ use mathlib.Core.Option.{Option, none, some}
 use Rattle.laws.specs.First.{Place, At, Nowhere}
 use Rattle.machine.specs.Ask.{Eat}
 use Rattle.rules.specs.declared.Verdict.{Verdict}
-use Rattle.judging.specs.declared.search.Found.{Found}
-use Rattle.judging.specs.declared.search.Found.TheVariants.{At as FoundAt, Nowhere as FoundNowhere}
+use Rattle.std.specs.Prelude.{ℕ, Some, None}
+use Rattle.std.specs.Prelude.{Option as Answered}
 use Rattle.judging.specs.declared.search.Judged.{Judged}
-use Rattle.judging.specs.declared.search.Judged.TheVariants.{Given, Missing}
 use Rattle.judging.specs.Means.{found_of, judged_of}
 use Rattle.judging.proofs.search.find.Reads as find
 use Rattle.judging.proofs.search.kept.Reads as kept
@@ -17,23 +16,23 @@ use Rattle.judging.proofs.unit.unit.Reads as unit
 use Rattle.judging.proofs.unit.is_major_sync.Reads as is-major-sync
 
 -- the code's answer back from its meaning
-abbrev found : Place → Found
-found (At i) = FoundAt i
-found Nowhere = FoundNowhere
+abbrev found : Place → Answered ℕ
+found (At i) = Some i
+found Nowhere = None
 
-found_again : (r : Found) → found (found_of r) ≡ r
-found_again (FoundAt i) = refl
-found_again FoundNowhere = refl
+found_again : (r : Answered ℕ) → found (found_of r) ≡ r
+found_again (Some i) = refl
+found_again None = refl
 
-abbrev judged : Option (Eat Verdict) → Judged
-judged (some g) = Given g.eaten g.answer
-judged none = Missing
+abbrev judged : Option (Eat Verdict) → Answered Judged
+judged (some g) = Some (record { eaten = g.eaten; verdict = g.answer })
+judged none = None
 
-judged_again : (r : Judged) → judged (judged_of r) ≡ r
-judged_again (Given n v) = refl
-judged_again Missing = refl
+judged_again : (r : Answered Judged) → judged (judged_of r) ≡ r
+judged_again (Some j) = refl
+judged_again None = refl
 
-judged_one : (r r' : Judged) → judged_of r ≡ judged_of r' → r ≡ r'
+judged_one : (r r' : Answered Judged) → judged_of r ≡ judged_of r' → r ≡ r'
 judged_one r r' e = sym (judged_again r) ∙ ap judged e ∙ judged_again r'
 
 pub find_one : (κs : _) (a : _) (r r' : _) (e e' : _) → find.Post κs a r e → find.Post κs a r' e' → r ≡ r'

@@ -1,4 +1,5 @@
 -- What each way out of the search's functions shows.
+use Rattle.std.specs.Prelude.{Err, None, Ok, Option, Result, Some, MatchOption}
 use Prim.Native.Nat.{ℕ, zero, suc, ◌+◌, ◌-◌, ◌*◌, ◌/◌, ◌%◌, ◌≤◌, ◌<◌}
 use native.Mathlib.Omega.{arith}
 use mathlib.Core.Path.{◌≡◌, refl, sym, ap, ap₂, ◌∙◌}
@@ -11,7 +12,7 @@ use lib.ListN.{length, take, drop, length-take, length-drop}
 use lib.Seq.{get_or-take}
 use borrow.Author.Tests.{eq-eqb, ne_eqb, le-leb, lt-leb, lt-ltb, le-ltb, leb-true, leb-false}
 use Rattle.laws.specs.Parts.{byte_at, part, part_part}
-use Rattle.laws.specs.First.{Place, At, Nowhere, first_from, first_none, scan_end, scan_here, scan_later}
+use Rattle.laws.specs.First.{first_unique, first_nowhere}
 use Rattle.laws.specs.Words.{word}
 use Rattle.machine.specs.Ask.{Ask, either, first, ◌>>=◌, Eat, eat, ask, decide}
 use Rattle.machine.proofs.AskLaws.{ask_done, ask_byte, ask_byte_missing, ask_front, ask_front_missing, ask_true, ask_false, then_ask, ask_then, decide_made, decide_unasked}
@@ -19,70 +20,52 @@ use Rattle.crc.specs.declared.Algorithm.{Algorithm}
 use Rattle.crc.specs.Crc.{check_of}
 use Rattle.timestamp.specs.declared.Timestamp.{Timestamp}
 use Rattle.timestamp.specs.declared.TimestampError.{TimestampError}
-use Rattle.timestamp.specs.declared.Parsed.{Parsed}
-use Rattle.timestamp.specs.declared.Parsed.TheVariants.{Stamp, Refused}
 use Rattle.timestamp.specs.Timestamp.{parse_of}
-use Rattle.rules.specs.declared.Waiting.{Waiting}
-use Rattle.rules.specs.declared.Waiting.TheVariants.{Nothing, Stamp as Waits}
 use Rattle.rules.specs.declared.Verdict.{Verdict}
 use Rattle.rules.specs.declared.Verdict.TheVariants.{Lock, Short, Failed}
 use Rattle.rules.specs.Search.{candidate_at, find, kept, stamp_at, sync_length, unit_length, checks, candidate}
 use Rattle.rules.proofs.BoundLaws.{sync_length_bounded}
-use Rattle.judging.specs.declared.search.Length.{Length}
-use Rattle.judging.specs.declared.search.Length.TheVariants.{Known, Missing as Unsaid}
-use Rattle.judging.specs.Means.{length_of, SyncIs}
+use Rattle.judging.specs.Means.{found_of, length_of, SyncIs}
 
--- the scan: the first of all places is the first of those from i on
-module _ (p : ℕ → Bool) (places i : ℕ) {x : Place} (same : x ≡ first_from p i (places - i)) where
-  pub none_left : places ≤ i → Nowhere ≡ x
-  none_left h = sym (same ∙ scan_end p i places h)
-
-  module _ (h : i < places) {b : Bool} (eb : b ≡ p i) where
-    pub found_here : b ≡ true → At i ≡ x
-    found_here t = sym (same ∙ scan_here p i places h (sym eb ∙ t))
-
-    pub found_later : b ≡ false → x ≡ first_from p (i + 1) (places - (i + 1))
-    found_later f = same ∙ scan_later p i places h (sym eb ∙ f)
-
-pub find_begins : (u : List ℕ) → find u ≡ first_from (candidate_at u) 0 (length u - 7 - 0)
+-- the scan: a place that passes, and before which none does, is the first
+pub found_by : (u : List ℕ) {n : ℕ} → n ≡ length u - 7 → (r : Option ℕ)
+    → MatchOption r ((k : ℕ) → 0 ≤ k → k < n → candidate_at u k ≡ false) (λ i. (0 ≤ i) × (i < n) × (candidate_at u i ≡ true) × ((k : ℕ) → 0 ≤ k → k < i → candidate_at u k ≡ false))
+    → found_of r ≡ find u
 unfolding find
-find_begins u = ap (first_from (candidate_at u) 0) (omega arith)
-
-pub find_short : (u : List ℕ) → length u < 8 → Nowhere ≡ find u
-unfolding find
-find_short u h = let e : length u - 7 ≡ 0 = omega arith in sym (ap (first_from (candidate_at u) 0) e ∙ first_none (candidate_at u) 0)
+found_by u e None h = sym (first_nowhere (candidate_at u) (length u - 7) 0 (λ j l m. h j l (omega arith)))
+found_by u e (Some i) h = sym (first_unique (candidate_at u) (length u - 7) 0 i (record { from = h.0; within = omega arith; passes = h.2; none_before = h.3 }))
 
 -- a waiting timestamp
-pub kept_gone : (n : ℕ) (w : Waiting) → (n ≡ 0 → ⊥) → Nothing ≡ kept n w
+pub kept_gone : (n : ℕ) (w : Option Timestamp) → (n ≡ 0 → ⊥) → None ≡ kept n w
 kept_gone zero w f = absurd (f refl)
 kept_gone (suc n) w f = refl
 
-module _ (seen : Bool) (n : ℕ) (u : List ℕ) (w : Waiting) where
-  pub stamp_seen : seen ≡ true → {r : Waiting} → r ≡ kept n w → r ≡ stamp_at seen n u w
+module _ (seen : Bool) (n : ℕ) (u : List ℕ) (w : Option Timestamp) where
+  pub stamp_seen : seen ≡ true → {r : Option Timestamp} → r ≡ kept n w → r ≡ stamp_at seen n u w
   unfolding stamp_at
   stamp_seen t e = e ∙ rw t
 
   module _ (f : seen ≡ false) where
-    pub stamp_near : n < 16 → {r : Waiting} → r ≡ kept n w → r ≡ stamp_at seen n u w
+    pub stamp_near : n < 16 → {r : Option Timestamp} → r ≡ kept n w → r ≡ stamp_at seen n u w
     unfolding stamp_at
     stamp_near h e = e ∙ rw (f, lt-leb 16 n h)
 
     -- a part that ends behind the bytes is shorter than a timestamp
-    pub stamp_cut : 16 ≤ n → length u < n → Nothing ≡ stamp_at seen n u w
+    pub stamp_cut : 16 ≤ n → length u < n → None ≡ stamp_at seen n u w
     unfolding stamp_at parse_of
     stamp_cut h l =
         let k : length (part u (n - 16) 16) < 16 = simp (length-take, length-drop) (omega arith) in
         rw (f, le-leb 16 n h, lt-ltb (length (part u (n - 16) 16)) 16 k)
 
-    module _ (h : 16 ≤ n) {p : Parsed} (ep : p ≡ parse_of (take (n - (n - 16)) (drop (n - 16) u))) where
+    module _ (h : 16 ≤ n) {p : Result Timestamp TimestampError} (ep : p ≡ parse_of (take (n - (n - 16)) (drop (n - 16) u))) where
       read : p ≡ parse_of (part u (n - 16) 16)
       read = let k : n - (n - 16) ≡ 16 = omega arith in ep ∙ ap (λ (m : ℕ). parse_of (take m (drop (n - 16) u))) k
 
-      pub stamp_none : {e : TimestampError} → p ≡ Refused e → Nothing ≡ stamp_at seen n u w
+      pub stamp_none : {e : TimestampError} → p ≡ Err e → None ≡ stamp_at seen n u w
       unfolding stamp_at
       stamp_none q = rw (f, le-leb 16 n h, ← read, q)
 
-      pub stamp_one : {t : Timestamp} → p ≡ Stamp t → Waits t ≡ stamp_at seen n u w
+      pub stamp_one : {t : Timestamp} → p ≡ Ok t → Some t ≡ stamp_at seen n u w
       unfolding stamp_at
       stamp_one q = rw (f, le-leb 16 n h, ← read, q)
 
@@ -123,17 +106,10 @@ module _ (u : List ℕ) where
               (ask_byte 7 _ u (omega arith) ∙ ask_false _ _ _ u (ne_eqb _ _ n) ∙ ask_byte 29 _ u (omega arith) ∙ ask_false _ _ _ u (ne_eqb _ _ o) ∙ ask_byte 30 _ u (omega arith) ∙ ask_done _ u))
 
 -- the check
-module _ (a : Algorithm) (m : ℕ) (bs : List ℕ) {found stored : ℕ} (ef : found ≡ check_of a (take (4 + m - 4) (drop 4 bs))) (es : stored ≡ word (byte_at bs (4 + m)) (byte_at bs (4 + m + 1))) where
-  computed : found ≡ check_of a (part bs 4 m)
-  computed = let k : 4 + m - 4 ≡ m = omega arith in ef ∙ ap (λ (n : ℕ). check_of a (take n (drop 4 bs))) k
-
-  pub check_equal : found ≡ stored → true ≡ checks a m bs
+module _ (a : Algorithm) (m : ℕ) (bs : List ℕ) where
+  pub check_asked : {found stored : ℕ} → found ≡ check_of a (take (4 + m - 4) (drop 4 bs)) → stored ≡ word (byte_at bs (4 + m)) (byte_at bs (4 + m + 1)) → eqb found stored ≡ checks a m bs
   unfolding checks
-  check_equal e = sym (eq-eqb _ _ (sym computed ∙ e ∙ es))
-
-  pub check_unequal : (found ≡ stored → ⊥) → false ≡ checks a m bs
-  unfolding checks
-  check_unequal f = sym (ne_eqb _ _ (λ e. f (computed ∙ e ∙ sym es)))
+  check_asked ef es = let k : 4 + m - 4 ≡ m = omega arith in rw (ef, es, k)
 
 -- the check reads within the unit
 checks_front : (a : Algorithm) (m n : ℕ) (u : List ℕ) → m + 6 ≤ n → checks a m (take n u) ≡ checks a m u
@@ -150,7 +126,7 @@ said_there u m s = go (leb 8 (length u)) refl
     go true e = leb-true _ _ e
     go false e = absurd (some-ne-none _ (sym s ∙ sym (length_unsaid_7 u (omega (arith, leb-false)))))
 
-pub sync_is : (u : List ℕ) (m : ℕ) {r : Length} → length_of r ≡ ask sync_length u → r ≡ Known m → SyncIs m u
+pub sync_is : (u : List ℕ) (m : ℕ) {r : Option ℕ} → length_of r ≡ ask sync_length u → r ≡ Some m → SyncIs m u
 sync_is u m e q =
     let s : ask sync_length u ≡ some m = sym e ∙ ap length_of q in
     let b = sync_length_bounded u m s in
@@ -161,7 +137,7 @@ module _ (a : Algorithm) (u : List ℕ) where
   abbrev after_sync : ℕ → Ask (Eat Verdict)
   after_sync m = unit_length >>= (λ n. either (ltb n (m + 8)) (eat 1 (Short n (m + 8))) (first n >>= (λ bs. either (checks a m bs) (eat 0 (Lock (byte_at bs 20 / 16 % 16))) (eat n Failed))))
 
-  pub candidate_unsaid : {r : Length} → length_of r ≡ ask sync_length u → r ≡ Unsaid → none ≡ decide (candidate a) u
+  pub candidate_unsaid : {r : Option ℕ} → length_of r ≡ ask sync_length u → r ≡ None → none ≡ decide (candidate a) u
   unfolding candidate
   candidate_unsaid e q = sym (decide_unasked (candidate a) u (ask_then sync_length after_sync u ∙ ap (then_ask after_sync u) (sym e ∙ ap length_of q)))
 

@@ -21,50 +21,67 @@ use Rattle.rules.specs.Search.{sync_length, unit_length}
 use Rattle.rules.specs.Request.{End, directory, even, closing, body, unit}
 use Rattle.rules.specs.Units.{is_major}
 use Rattle.rules.proofs.BoundLaws.{sync_length_bounded, directory_bounded}
-use Rattle.judging.specs.declared.search.Length.{Length}
-use Rattle.judging.specs.declared.search.Length.TheVariants.{Known, Missing as Unsaid}
+use Rattle.std.specs.Prelude.{Some, None}
+use Rattle.std.specs.Prelude.{Option as Answered}
 use Rattle.judging.specs.declared.unit.Walk.{Walk}
-use Rattle.judging.specs.declared.unit.Walk.TheVariants.{Ends, Missing as Cut}
 use Rattle.judging.specs.Means.{length_of, walk_of, end_of}
 
--- THE DIRECTORY: what is asked of all entries is asked of those that are left
-module _ (u : List ℕ) (at p k : ℕ) {x : Option End} (same : x ≡ ask (directory k at p) u) where
-  pub no_entries_left : k ≤ 0 → some (end_of at p) ≡ x
+-- ONE ENTRY of the directory
+module _ (u : List ℕ) (at p : ℕ) where
+  pub entry_cut : length u < at + 2 → none ≡ ask (directory 1 at p) u
   unfolding directory
-  no_entries_left h = let z : k ≡ 0 = omega arith in sym (same ∙ ap (λ (n : ℕ). ask (directory n at p) u) z ∙ ask_done _ u)
+  entry_cut l = sym (go (leb (suc at) (length u)) refl)
+    where
+      go : (b : Bool) → leb (suc at) (length u) ≡ b → ask (directory 1 at p) u ≡ none
+      go true e = ask_byte at _ u (leb-true _ _ e) ∙ ask_byte_missing (at + 1) _ u (omega arith)
+      go false e = ask_byte_missing at _ u (omega (arith, leb-false))
 
-  module _ (more : 0 < k) where
-    entry : x ≡ ask (directory (suc (k - 1)) at p) u
-    entry = same ∙ ap (λ (n : ℕ). ask (directory n at p) u) (less_one k more)
-
-    pub entry_cut : length u < at + 2 → none ≡ x
+  module _ (there : at + 2 ≤ length u) where
+    pub entry_of_two : byte_at u at < 128 → some (end_of (at + 2) (bit_xor (bit_xor p (byte_at u at)) (byte_at u (at + 1)))) ≡ ask (directory 1 at p) u
     unfolding directory
-    entry_cut l = sym (entry ∙ go (leb (suc at) (length u)) refl)
-      where
-        go : (b : Bool) → leb (suc at) (length u) ≡ b → ask (directory (suc (k - 1)) at p) u ≡ none
-        go true e = ask_byte at _ u (leb-true _ _ e) ∙ ask_byte_missing (at + 1) _ u (omega arith)
-        go false e = ask_byte_missing at _ u (omega (arith, leb-false))
+    entry_of_two s = sym (ask_byte at _ u (omega arith) ∙ ask_byte (at + 1) _ u (omega arith) ∙ ask_false _ _ _ u (lt-leb 128 (byte_at u at) s) ∙ ask_done _ u)
 
-    module _ (there : at + 2 ≤ length u) where
-      pub entry_of_two : byte_at u at < 128 → x ≡ ask (directory (k - 1) (at + 2) (bit_xor (bit_xor p (byte_at u at)) (byte_at u (at + 1)))) u
+    module _ (s : 128 ≤ byte_at u at) where
+      abbrev last_two : Ask End
+      last_two = byte (at + 2) (λ c. byte (at + 3) (λ d. directory 0 (at + 4) (bit_xor (bit_xor (bit_xor (bit_xor p (byte_at u at)) (byte_at u (at + 1))) c) d)))
+
+      long : ask (directory 1 at p) u ≡ ask last_two u
       unfolding directory
-      entry_of_two s = entry ∙ ask_byte at _ u (omega arith) ∙ ask_byte (at + 1) _ u (omega arith) ∙ ask_false _ _ _ u (lt-leb 128 (byte_at u at) s)
+      long = ask_byte at _ u (omega arith) ∙ ask_byte (at + 1) _ u (omega arith) ∙ ask_true _ _ _ u (le-leb 128 (byte_at u at) s)
 
-      module _ (s : 128 ≤ byte_at u at) where
-        long : x ≡ ask (byte (at + 2) (λ c. byte (at + 3) (λ d. directory (k - 1) (at + 4) (bit_xor (bit_xor (bit_xor (bit_xor p (byte_at u at)) (byte_at u (at + 1))) c) d)))) u
-        unfolding directory
-        long = entry ∙ ask_byte at _ u (omega arith) ∙ ask_byte (at + 1) _ u (omega arith) ∙ ask_true _ _ _ u (le-leb 128 (byte_at u at) s)
+      pub long_entry_cut : length u < at + 4 → none ≡ ask (directory 1 at p) u
+      long_entry_cut l = sym (long ∙ go (leb (at + 3) (length u)) refl)
+        where
+          go : (b : Bool) → leb (at + 3) (length u) ≡ b → ask last_two u ≡ none
+          go true e = ask_byte (at + 2) _ u (omega (arith, leb-true)) ∙ ask_byte_missing (at + 3) _ u (omega arith)
+          go false e = ask_byte_missing (at + 2) _ u (omega (arith, leb-false))
 
-        pub long_entry_cut : length u < at + 4 → none ≡ x
-        long_entry_cut l = sym (long ∙ go (leb (at + 3) (length u)) refl)
-          where
-            go : (b : Bool) → leb (at + 3) (length u) ≡ b → ask (byte (at + 2) (λ c. byte (at + 3) (λ d. directory (k - 1) (at + 4) (bit_xor (bit_xor (bit_xor (bit_xor p (byte_at u at)) (byte_at u (at + 1))) c) d)))) u ≡ none
-            go true e = ask_byte (at + 2) _ u (omega (arith, leb-true)) ∙ ask_byte_missing (at + 3) _ u (omega arith)
-            go false e = ask_byte_missing (at + 2) _ u (omega (arith, leb-false))
+      pub entry_of_four : at + 4 ≤ length u → {a b c d : ℕ} → a ≡ byte_at u at → b ≡ byte_at u (at + 1) → c ≡ byte_at u (at + 2) → d ≡ byte_at u (at + 3)
+          → some (end_of (at + 4) (bit_xor (bit_xor (bit_xor (bit_xor p a) b) c) d)) ≡ ask (directory 1 at p) u
+      unfolding directory
+      entry_of_four l ea eb ec ed = rw (ea, eb, ec, ed) (sym (long ∙ ask_byte (at + 2) _ u (omega arith) ∙ ask_byte (at + 3) _ u (omega arith) ∙ ask_done _ u))
 
-        pub entry_of_four : at + 4 ≤ length u
-            → x ≡ ask (directory (k - 1) (at + 4) (bit_xor (bit_xor (bit_xor (bit_xor p (byte_at u at)) (byte_at u (at + 1))) (byte_at u (at + 2))) (byte_at u (at + 3)))) u
-        entry_of_four l = long ∙ ask_byte (at + 2) _ u (omega arith) ∙ ask_byte (at + 3) _ u (omega arith)
+-- THE DIRECTORY: one entry, and then the others
+module _ (u : List ℕ) where
+  entry_then : (k at p : ℕ) → ask (directory (suc k) at p) u ≡ then_ask (λ e. directory k e.place e.parity) u (ask (directory 1 at p) u)
+  unfolding directory
+  entry_then k at p = ask_then (directory 1 at p) (λ e. directory k e.place e.parity) u
+
+  -- what is asked of all entries is asked of those that are left
+  module _ (at p k : ℕ) {x : Option End} (same : x ≡ ask (directory k at p) u) where
+    pub no_entries_left : k ≤ 0 → some (end_of at p) ≡ x
+    unfolding directory
+    no_entries_left h = let z : k ≡ 0 = omega arith in sym (same ∙ ap (λ (n : ℕ). ask (directory n at p) u) z ∙ ask_done _ u)
+
+    module _ (more : 0 < k) (w : Answered Walk) (ew : walk_of w ≡ ask (directory 1 at p) u) where
+      entry_first : x ≡ then_ask (λ e. directory (k - 1) e.place e.parity) u (walk_of w)
+      entry_first = same ∙ ap (λ (n : ℕ). ask (directory n at p) u) (less_one k more) ∙ entry_then (k - 1) at p ∙ ap (then_ask (λ e. directory (k - 1) e.place e.parity) u) (sym ew)
+
+      pub entries_cut : w ≡ None → none ≡ x
+      entries_cut q = sym (entry_first ∙ ap (λ y. then_ask (λ e. directory (k - 1) e.place e.parity) u (walk_of y)) q)
+
+      pub entries_later : {v : Walk} → w ≡ Some v → {n : ℕ} → n ≡ k - 1 → x ≡ ask (directory n v.place v.parity) u
+      entries_later q en = rw en (entry_first ∙ ap (λ y. then_ask (λ e. directory (k - 1) e.place e.parity) u (walk_of y)) q)
 
 -- THE UNIT'S LENGTH AND THE CLOSING
 module _ (u : List ℕ) (major : Bool) (place p : ℕ) {b : Bool} (eb : b ≡ even p) where
@@ -111,18 +128,18 @@ module _ (u : List ℕ) (k : ℕ) (major : Bool) (skip : ℕ) (h : 4 ≤ length 
       ∙ ask_byte 3 _ u (omega arith)
       ∙ ask_then (directory k (4 + skip) first4) (closing major) u
 
-  module _ {w : Walk} (ew : walk_of w ≡ ask (directory k (4 + skip) first4) u) where
-    pub body_cut : w ≡ Cut → none ≡ decide (body k major skip) u
+  module _ {w : Answered Walk} (ew : walk_of w ≡ ask (directory k (4 + skip) first4) u) where
+    pub body_cut : w ≡ None → none ≡ decide (body k major skip) u
     body_cut q = sym (decide_unasked (body k major skip) u (begun ∙ ap (then_ask (closing major) u) (sym ew ∙ ap walk_of q)))
 
-    module _ {place parity : ℕ} (q : w ≡ Ends place parity) where
-      ended : ask (directory k (4 + skip) first4) u ≡ some (end_of place parity)
+    module _ {end : Walk} (q : w ≡ Some end) where
+      ended : ask (directory k (4 + skip) first4) u ≡ some (end_of end.place end.parity)
       ended = sym ew ∙ ap walk_of q
 
-      pub place_bounded : k < 256 → skip ≤ 60 → (2 ≤ length u) × (place ≤ 1084)
-      place_bounded f g = let b = directory_bounded k (4 + skip) first4 u (end_of place parity) ended in (omega arith, omega arith)
+      pub place_bounded : k < 256 → skip ≤ 60 → (2 ≤ length u) × (end.place ≤ 1084)
+      place_bounded f g = let b = directory_bounded k (4 + skip) first4 u (end_of end.place end.parity) ended in (omega arith, omega arith)
 
-      pub body_closes : {r : Option (Eat Verdict)} → r ≡ decide (closing major (end_of place parity)) u → r ≡ decide (body k major skip) u
+      pub body_closes : {r : Option (Eat Verdict)} → r ≡ decide (closing major (end_of end.place end.parity)) u → r ≡ decide (body k major skip) u
       unfolding decide
       body_closes e = e ∙ sym (ap (arrived u) (begun ∙ ap (then_ask (closing major) u) ended))
 
@@ -174,15 +191,15 @@ module _ (k : ℕ) (u : List ℕ) where
                 ∙ ask_true _ _ _ u (eq-eqb (byte_at u 20 / 16) k e20)
                 ∙ ask_then sync_length (λ m. body k true (m + 2)) u
 
-            pub unit_unsaid : {r : Length} → length_of r ≡ ask sync_length u → r ≡ Unsaid → none ≡ decide (unit k) u
+            pub unit_unsaid : {r : Answered ℕ} → length_of r ≡ ask sync_length u → r ≡ None → none ≡ decide (unit k) u
             unit_unsaid er q = sym (decide_unasked (unit k) u (matched ∙ ap (then_ask (λ m. body k true (m + 2)) u) (sym er ∙ ap length_of q)))
 
-            pub unit_major : {r : Length} {m : ℕ} → length_of r ≡ ask sync_length u → r ≡ Known m → {x : Option (Eat Verdict)} → x ≡ decide (body k true (m + 2)) u → x ≡ decide (unit k) u
+            pub unit_major : {r : Answered ℕ} {m : ℕ} → length_of r ≡ ask sync_length u → r ≡ Some m → {x : Option (Eat Verdict)} → x ≡ decide (body k true (m + 2)) u → x ≡ decide (unit k) u
             unfolding decide
             unit_major er q e = e ∙ sym (ap (arrived u) (matched ∙ ap (then_ask (λ n. body k true (n + 2)) u) (sym er ∙ ap length_of q)))
 
 -- a sync's length, as it was answered, leaves at most 60 bytes to skip
-pub skip_bounded : (u : List ℕ) {r : Length} {m : ℕ} → length_of r ≡ ask sync_length u → r ≡ Known m → m ≤ 58
+pub skip_bounded : (u : List ℕ) {r : Answered ℕ} {m : ℕ} → length_of r ≡ ask sync_length u → r ≡ Some m → m ≤ 58
 skip_bounded u {r} {m} er q = (sync_length_bounded u m (sym er ∙ ap length_of q)).1
 
 -- WHETHER A UNIT IS MAJOR: another byte 4 or 5 says no, however long the unit is

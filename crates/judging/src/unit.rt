@@ -5,136 +5,127 @@ ghost use Rattle.rules.specs.Request.{directory, even as evenOf, closing as clos
 ghost use Rattle.rules.specs.Units.{is_major};
 ghost use Rattle.judging.specs.Means.{judged_of, walk_of, end_of};
 
-use crate::search::{Judged, Length, sync_length, unit_length};
+use crate::search::{Judged, sync_length, unit_length};
 use rules::{Loss, Verdict};
 
-// Where a directory ends, and the parity up to there, unless a byte is missing for it.
+// How far a directory was walked, and the parity up to there.
 #[derive(Clone, Copy)]
-enum Walk {
-    Ends { place: usize, parity: u8 },
-    Missing,
+struct Walk {
+    place: usize,
+    parity: u8,
 }
 
-// The entries of a directory: each is 2 bytes, or 4 if its first bit is one.
-fn entries(u: &[u8], count: u8, start: usize, first: u8) -> Walk
+// One entry, 2 bytes or 4 if its first bit is one; unless a byte is missing for it.
+#[tactic(auto, using(crate::proofs::UnitWays::entry_cut, crate::proofs::UnitWays::entry_of_two, crate::proofs::UnitWays::long_entry_cut, crate::proofs::UnitWays::entry_of_four))]
+fn entry(u: &[u8], walk: Walk) -> Option<Walk>
+    ensures { walk_of result ≡ ask (directory 1 walk.place walk.parity) u.now }
+{
+    let Walk { place, parity } = walk;
+    let a = *u.get(place)?;
+    let b = *u.get(place + 1)?;
+    if a < 128 {
+        return Some(Walk {
+            place: place + 2,
+            parity: parity ^ a ^ b,
+        });
+    }
+    let c = *u.get(place + 2)?;
+    let d = *u.get(place + 3)?;
+    Some(Walk {
+        place: place + 4,
+        parity: parity ^ a ^ b ^ c ^ d,
+    })
+}
+
+// The entries of a directory.
+#[tactic(auto, using(crate::proofs::UnitWays::no_entries_left, crate::proofs::UnitWays::entries_cut, crate::proofs::UnitWays::entries_later))]
+fn entries(u: &[u8], count: u8, start: usize, first: u8) -> Option<Walk>
     requires { start ≤ 64 }
     ensures { walk_of result ≡ ask (directory count start first) u.now }
 {
-    let mut left = count;
-    let mut at = start;
-    let mut parity = first;
-    while 0 < left {
-        if u.len() < at + 2 {
-            return Walk::Missing;
-        }
-        let a = u[at];
-        let b = u[at + 1];
-        if a < 128 {
-            parity = parity ^ a ^ b;
-            at += 2;
-        } else {
-            if u.len() < at + 4 {
-                return Walk::Missing;
-            }
-            parity = parity ^ a ^ b ^ u[at + 2] ^ u[at + 3];
-            at += 4;
-        }
-        left -= 1;
+    let mut walk = Walk {
+        place: start,
+        parity: first,
+    };
+    for _ in 0..count {
+        walk = entry(u, walk)?;
     }
-    Walk::Ends { place: at, parity }
+    Some(walk)
 }
 
 // The two nibbles XORed must be 15.
 fn even(parity: u8) -> bool
     ensures { result ≡ evenOf parity }
 {
-    if (parity / 16 % 16) ^ (parity % 16) == 15 {
-        true
-    } else {
-        false
-    }
+    (parity / 16 % 16) ^ (parity % 16) == 15
 }
 
 // At the directory's end: parity first, then the length against that end, then the whole unit.
-fn closing(u: &[u8], major: bool, place: usize, parity: u8) -> Judged
-    requires { (2 ≤ length u.now) × (place ≤ 1084) }
-    ensures { judged_of result ≡ decide (closingOf major (end_of place parity)) u.now }
+#[tactic(auto, using(crate::proofs::UnitWays::closing_odd, crate::proofs::UnitWays::closing_short, crate::proofs::UnitWays::closing_waits, crate::proofs::UnitWays::closing_whole))]
+fn closing(u: &[u8], major: bool, end: Walk) -> Option<Judged>
+    requires { (2 ≤ length u.now) × (end.place ≤ 1084) }
+    ensures { judged_of result ≡ decide (closingOf major (end_of end.place end.parity)) u.now }
 {
-    if even(parity) {} else {
-        return Judged::Given {
+    if !even(end.parity) {
+        return Some(Judged {
             eaten: 1,
             verdict: Verdict::Lost(Loss::Parity),
-        };
+        });
     }
     let actual = unit_length(u);
-    let n = actual as usize;
-    if n < place {
-        return Judged::Given {
+    let n = usize::from(actual);
+    if n < end.place {
+        return Some(Judged {
             eaten: 1,
             verdict: Verdict::Short {
                 actual,
-                minimum: place as u16,
+                minimum: end.place as u16,
             },
-        };
+        });
     }
     if u.len() < n {
-        return Judged::Missing;
+        return None;
     }
-    Judged::Given {
+    Some(Judged {
         eaten: n,
         verdict: Verdict::Whole { major },
-    }
+    })
 }
 
 // The first four bytes, then the directory behind what is skipped; skipped bytes needn't have arrived.
-fn body(u: &[u8], count: u8, major: bool, skip: usize) -> Judged
+#[tactic(auto, using(crate::proofs::UnitWays::body_cut, crate::proofs::UnitWays::place_bounded, crate::proofs::UnitWays::body_closes))]
+fn body(u: &[u8], count: u8, major: bool, skip: usize) -> Option<Judged>
     requires { (4 ≤ length u.now) × (skip ≤ 60) }
     ensures { judged_of result ≡ decide (body_of count major skip) u.now }
 {
     let first = u[0] ^ u[1] ^ u[2] ^ u[3];
-    let Walk::Ends { place, parity } = entries(u, count, 4 + skip, first) else {
-        return Judged::Missing;
-    };
-    closing(u, major, place, parity)
+    closing(u, major, entries(u, count, 4 + skip, first)?)
 }
 
-// The unit at the front of the unread bytes, under a lock of so many substreams.
-pub fn unit(count: u8, u: &[u8]) -> Judged
+// The unit at the front of the unread bytes, under a lock of so many substreams; judged unless a byte is missing for it.
+#[tactic(auto, using(crate::proofs::UnitWays::unit_unseen, crate::proofs::UnitWays::unit_minor_4, crate::proofs::UnitWays::unit_minor_5, crate::proofs::UnitWays::unit_uncounted, crate::proofs::UnitWays::unit_mismatched, crate::proofs::UnitWays::unit_unsaid, crate::proofs::UnitWays::skip_bounded, crate::proofs::UnitWays::unit_major))]
+pub fn unit(count: u8, u: &[u8]) -> Option<Judged>
     ensures { judged_of result ≡ decide (unit_of count) u.now }
 {
     if u.len() < 6 {
-        return Judged::Missing;
+        return None;
     }
-    if u[4] != 0xF8 {
+    if u[4] != 0xF8 || u[5] != 0x72 {
         return body(u, count, false, 0);
     }
-    if u[5] != 0x72 {
-        return body(u, count, false, 0);
-    }
-    if u.len() < 21 {
-        return Judged::Missing;
-    }
-    if u[20] / 16 != count {
-        return Judged::Given {
+    if *u.get(20)? / 16 != count {
+        return Some(Judged {
             eaten: 1,
             verdict: Verdict::Lost(Loss::Mismatch),
-        };
+        });
     }
-    let Length::Known(m) = sync_length(u) else {
-        return Judged::Missing;
-    };
-    body(u, count, true, m + 2)
+    body(u, count, true, sync_length(u)? + 2)
 }
 
 // Does a unit begin with a major sync? By bytes 4 and 5; a unit too short to have them does not.
+#[tactic(auto, using(crate::proofs::UnitWays::minor_short, crate::proofs::UnitWays::minor_by_4, crate::proofs::UnitWays::minor_by_5, crate::proofs::UnitWays::major_by_both))]
 pub fn is_major_sync(unit: &[u8]) -> bool
     ensures { result ≡ is_major unit.now }
 {
-    if unit.len() < 6 {
-        return false;
-    }
-    if unit[4] != 0xF8 {
-        return false;
-    }
-    if unit[5] == 0x72 { true } else { false }
+    unit.len() >= 6 && unit[4] == 0xF8 && unit[5] == 0x72
 }

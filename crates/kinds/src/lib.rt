@@ -6,11 +6,11 @@ ghost use Rattle.std.specs.Prelude.{◌≡◌};
 ghost use Rattle.kinds.specs.Kinds.{passed_of};
 
 // A place in the stream, counted in bytes from its beginning.
-#[derive(Clone, Copy)]
+#[derive(Clone, Copy, Debug, PartialEq, Eq, PartialOrd, Ord)]
 pub struct BytePosition(pub u64);
 
 // A moment of playback, counted in samples.
-#[derive(Clone, Copy)]
+#[derive(Clone, Copy, Debug, PartialEq, Eq, PartialOrd, Ord)]
 pub struct SampleTime(pub u64);
 
 impl SampleTime {
@@ -18,6 +18,6 @@ impl SampleTime {
     pub fn passed(self, other: SampleTime) -> bool
         ensures { result ≡ passed_of self other }
     {
-        other.0 < self.0
+        other < self
     }
 }

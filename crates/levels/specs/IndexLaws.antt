@@ -1,10 +1,12 @@
 -- What a test at every index says, how a loop from the top comes to it, and what stands at an index of five and of four.
-use Rattle.std.specs.Prelude.{ℕ, zero, suc, ◌-◌, ◌≤◌, ◌<◌, ◌≡◌, refl, Bool, true, false, get_or, eqb}
+use Rattle.std.specs.Prelude.{ℕ, zero, suc, ◌-◌, ◌≤◌, ◌<◌, ◌≡◌, refl, Bool, true, false, ◌&&◌, List, length, take, get_or, eqb}
 use native.Mathlib.Omega.{arith}
-use Rattle.std.proofs.Common.{not-suc-le-zero, ◌∙◌, eqb-true}
+use Rattle.std.proofs.Common.{not-suc-le-zero, ◌∙◌, eqb-true, add-one, take_all}
 use Rattle.std.proofs.Math.Path.{sym, ap}
 use Rattle.std.proofs.lemmas.Bool.{eqb-false}
-use Rattle.laws.specs.Pick.{both, both_hold}
+use Rattle.std.proofs.lemmas.List.Folds.{list_all_more}
+use Rattle.std.specs.List.{list_all}
+use Rattle.laws.specs.Pick.{pick, both, both_hold}
 use Rattle.laws.specs.Turns.{less_one}
 use Rattle.levels.specs.Index.{five, four, every}
 
@@ -42,6 +44,24 @@ module _ {whole : Bool} (n : ℕ) (p : ℕ → Bool) (same : whole ≡ every n p
     pub every_on : x ≡ true → whole ≡ every (n - 1) p
     unfolding every
     every_on h = same ∙ ap (λ (k : ℕ). every k p) (less_one n more) ∙ rw (← e, h)
+
+-- a test of each element of a list is a test at every index below its length
+turned : (a b : Bool) → (a && b) ≡ pick b a false
+turned true true = refl
+turned true false = refl
+turned false true = refl
+turned false false = refl
+
+module _ {A : Type 0} (test : A → Bool) (xs : List A) (d : A) (p : ℕ → Bool) where
+  front_every : (n : ℕ) → n ≤ length xs → ((k : ℕ) → k < n → test (get_or xs k d) ≡ p k) → list_all test (take n xs) ≡ every n p
+  unfolding every
+  front_every zero h same = refl
+  front_every (suc n) h same =
+      let e : list_all test (take n xs) ≡ every n p = front_every n (omega arith) (λ k g. same k (omega arith)) in
+      rw (← add-one n) (list_all_more test xs n d (omega arith) ∙ turned (list_all test (take n xs)) (test (get_or xs n d)) ∙ rw (same n (omega arith), e))
+
+  pub all_every : (n : ℕ) → length xs ≡ n → ((k : ℕ) → k < n → test (get_or xs k d) ≡ p k) → list_all test xs ≡ every n p
+  all_every n h same = let e : take n xs ≡ xs = take_all n xs (omega arith) in rw e at (front_every n (omega arith) same)
 
 -- what stands at an index of five and of four
 pub at_five : {A : Type 0} (f : ℕ → A) (d : A) (k : ℕ) → k < 5 → get_or (five f) k d ≡ f k

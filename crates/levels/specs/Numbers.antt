@@ -1,5 +1,5 @@
 -- The conditions of numbers 1, 12 and 13.
-use Rattle.std.specs.Prelude.{ℕ, ◌+◌, Bool, false, List, leb, ltb, get_or}
+use Rattle.std.specs.Prelude.{ℕ, ◌+◌, Bool, false, List, Result, Ok, Err, codes, leb, ltb, get_or}
 use Rattle.laws.specs.Pick.{pick}
 use Rattle.levels.specs.Index.{every}
 use Rattle.levels.specs.Levels.{depth_at, substream_at}
@@ -7,15 +7,25 @@ use Rattle.levels.specs.declared.Contribution.{Contribution}
 use Rattle.levels.specs.declared.Depth.{Depth}
 use Rattle.levels.specs.declared.SubstreamDepth.{SubstreamDepth}
 use Rattle.levels.specs.declared.Levels.{Levels}
-use Rattle.levels.specs.declared.Answer.{Answer}
-use Rattle.levels.specs.declared.Answer.TheVariants.{Accepted, RecordDoesNotFit, ContributionTooLarge, DepthTooLarge}
+use Rattle.levels.specs.declared.Refusal.{Refusal}
+use Rattle.levels.specs.declared.Refusal.TheVariants.{RecordDoesNotFit, ContributionTooLarge, DepthTooLarge}
 
--- document 01's number of each answer; 0 where the call is accepted
-abbrev pub number_of : Answer → ℕ
-number_of Accepted = 0
-number_of RecordDoesNotFit = 1
-number_of ContributionTooLarge = 12
-number_of DepthTooLarge = 13
+-- document 01's number of each refusal
+abbrev pub refusal_number : Refusal → ℕ
+refusal_number RecordDoesNotFit = 1
+refusal_number ContributionTooLarge = 12
+refusal_number DepthTooLarge = 13
+
+-- what a refusal prints
+abbrev pub text_of : Refusal → List ℕ
+text_of RecordDoesNotFit = codes "the record does not fit"
+text_of ContributionTooLarge = codes "a contribution is above 16,384 bytes"
+text_of DepthTooLarge = codes "a depth would be above 4,294,967,295 bytes"
+
+-- the number of each answer; 0 where the call is accepted
+abbrev pub number_of : {A : Type 0} → Result A Refusal → ℕ
+number_of (Ok a) = 0
+number_of (Err refusal) = refusal_number refusal
 
 -- "one of the fourteen depths above 4,294,967,295"
 unfoldable pub depth_fits : Depth → Bool

@@ -1,146 +1,97 @@
 // The conditions of numbers 1, 12 and 13.
-ghost use Rattle.std.specs.Prelude.{◌≡◌, length};
-ghost use Rattle.levels.specs.Numbers.{fits_of, depth_fits, depths_fit, substreams_fit, all_small, small_of, room_at, depth_room, depths_room, substreams_room, room_of};
+ghost use Rattle.std.specs.Prelude.{◌≡◌, nat_le};
+ghost use Rattle.std.specs.List.{list_all, zip};
+ghost use Rattle.levels.specs.Numbers.{fits_of, depth_fits, small_of, room_at, depth_room, room_of};
 
 use crate::{Contribution, Depth, Levels, SubstreamDepth};
 
+// The deepest that an accumulator or a substream may be.
+const DEEPEST: u64 = 4_294_967_295;
+
+// The most that one unit may add to it.
+const MOST_ADDED: u32 = 16_384;
+
+#[tactic(auto, unfolding(crate::specs::Numbers::depth_fits))]
 fn depth_fits(depth: Depth) -> bool
     ensures { result ≡ depth_fits depth }
 {
-    if depth.total <= 4294967295 {
-        depth.stream <= 4294967295
-    } else {
-        false
-    }
+    depth.total <= DEEPEST && depth.stream <= DEEPEST
 }
 
 fn depths_fit(depth: [Depth; 5]) -> bool
-    ensures { result ≡ depths_fit depth }
+    ensures { result ≡ list_all depth_fits depth }
 {
-    let mut k: usize = 5;
-    while 0 < k {
-        k -= 1;
-        if depth_fits(depth[k]) {} else {
-            return false;
-        }
-    }
-    true
+    depth.iter().all(|depth| depth_fits(*depth))
 }
 
 fn substreams_fit(substream: [SubstreamDepth; 4]) -> bool
-    ensures { result ≡ substreams_fit substream }
+    ensures { result ≡ list_all (λ (d : SubstreamDepth). nat_le d.bytes 4294967295) substream }
 {
-    let mut i: usize = 4;
-    while 0 < i {
-        i -= 1;
-        let d = substream[i];
-        if 4294967295 < d.bytes {
-            return false;
-        }
-    }
-    true
+    substream.iter().all(|substream| substream.bytes <= DEEPEST)
 }
 
 // Number 1.
+#[tactic(auto, using(crate::proofs::Conditions::depths_each, crate::proofs::Conditions::substreams_each), unfolding(crate::specs::Numbers::fits_of))]
 pub fn fits(levels: Levels) -> bool
     ensures { result ≡ fits_of levels }
 {
-    if 127 < levels.read {
-        return false;
-    }
-    if 127 < levels.write {
-        return false;
-    }
-    let depth = levels.depth;
-    if depths_fit(depth) {
-        let substream = levels.substream;
-        substreams_fit(substream)
-    } else {
-        false
-    }
+    levels.read < 128
+        && levels.write < 128
+        && depths_fit(levels.depth)
+        && substreams_fit(levels.substream)
 }
 
 fn all_small(bytes: &[u32]) -> bool
-    ensures { result ≡ all_small (length bytes.now) bytes.now }
+    ensures { result ≡ list_all (λ b. nat_le b 16384) bytes.now }
 {
-    let mut k = bytes.len();
-    while 0 < k {
-        k -= 1;
-        if 16384 < bytes[k] {
-            return false;
-        }
-    }
-    true
+    bytes.iter().all(|bytes| *bytes <= MOST_ADDED)
 }
 
 // Number 12.
+#[tactic(auto, using(crate::proofs::Conditions::small_each), unfolding(crate::specs::Numbers::small_of))]
 pub fn small(contribution: Contribution) -> bool
     ensures { result ≡ small_of contribution }
 {
-    if all_small(&contribution.total) {
-        if all_small(&contribution.stream) {
-            all_small(&contribution.substream)
-        } else {
-            false
-        }
-    } else {
-        false
-    }
+    all_small(&contribution.total)
+        && all_small(&contribution.stream)
+        && all_small(&contribution.substream)
 }
 
 // Is there room for so many bytes more? Asked so that the sum is never made.
+#[tactic(auto, unfolding(crate::specs::Numbers::room_at))]
 fn room_at(depth: u64, bytes: u32) -> bool
     ensures { result ≡ room_at depth bytes }
 {
-    depth <= 4294967295 - bytes as u64
+    depth <= DEEPEST - u64::from(bytes)
 }
 
+#[tactic(auto, unfolding(crate::specs::Numbers::depth_room))]
 fn depth_room(depth: Depth, total: u32, stream: u32) -> bool
     ensures { result ≡ depth_room depth total stream }
 {
-    if room_at(depth.total, total) {
-        room_at(depth.stream, stream)
-    } else {
-        false
-    }
+    room_at(depth.total, total) && room_at(depth.stream, stream)
 }
 
 fn depths_room(depth: [Depth; 5], contribution: Contribution) -> bool
-    ensures { result ≡ depths_room depth contribution }
+    ensures { result ≡ list_all (λ p. depth_room p.0 p.1.0 p.1.1) (zip depth (zip contribution.total contribution.stream)) }
 {
-    let mut k: usize = 5;
-    while 0 < k {
-        k -= 1;
-        if depth_room(depth[k], contribution.total[k], contribution.stream[k]) {} else {
-            return false;
-        }
-    }
-    true
+    let parts = contribution.total.iter().zip(contribution.stream.iter());
+    depth.iter().zip(parts).all(|(depth, (total, stream))| depth_room(*depth, *total, *stream))
 }
 
 fn substreams_room(substream: [SubstreamDepth; 4], contribution: Contribution) -> bool
-    ensures { result ≡ substreams_room substream contribution }
+    ensures { result ≡ list_all (λ p. room_at p.0.bytes p.1) (zip substream contribution.substream) }
 {
-    let mut i: usize = 4;
-    while 0 < i {
-        i -= 1;
-        let d = substream[i];
-        if room_at(d.bytes, contribution.substream[i]) {} else {
-            return false;
-        }
-    }
-    true
+    substream
+        .iter()
+        .zip(contribution.substream.iter())
+        .all(|(substream, bytes)| room_at(substream.bytes, *bytes))
 }
 
 // Number 13, against the depths before the drain.
+#[tactic(auto, using(crate::proofs::Conditions::depths_room_each, crate::proofs::Conditions::substreams_room_each), unfolding(crate::specs::Numbers::room_of))]
 pub fn room(levels: Levels, contribution: Contribution) -> bool
     ensures { result ≡ room_of levels contribution }
 {
-    let depth = levels.depth;
-    if depths_room(depth, contribution) {
-        let substream = levels.substream;
-        substreams_room(substream, contribution)
-    } else {
-        false
-    }
+    depths_room(levels.depth, contribution) && substreams_room(levels.substream, contribution)
 }

@@ -2,7 +2,7 @@
 -- of a fresh scan's units and spoken errors, each whole, none left out, in order; and the last line has its position and its error count.
 use Prim.Native.Nat.{ℕ, zero, suc, ◌+◌, ◌^◌, ◌≤◌, ◌<◌}
 use Rattle.std.proofs.Common.{arith, ap₂, ◌∙◌}
-use Rattle.std.specs.Prelude.{◌≡◌, Bool, leb, eqb}
+use Rattle.std.specs.Prelude.{◌≡◌, Bool, leb, eqb, Result, Ok, Err}
 use Rattle.std.proofs.Math.Path.{refl, sym, ap, subst}
 use Rattle.std.proofs.Math.Bool.{true, false}
 use Rattle.std.proofs.lemmas.Bool.{false≢true}
@@ -27,7 +27,8 @@ use Rattle.rules.proofs.HandedLaws.{units_apart, new_stands}
 use Rattle.extract.specs.declared.Extractor.{Extractor}
 use Rattle.extract.specs.declared.Asked.{Asked as Answered}
 use Rattle.extract.specs.declared.Answer.{Answer}
-use Rattle.extract.specs.declared.Answer.TheVariants.{Unit as AUnit, InvalidAccessUnitLength, ParityCheckFailed, InsufficientData, Quiet, Record as BadRecord}
+use Rattle.extract.specs.declared.Answer.TheVariants.{Unit as AUnit, InvalidAccessUnitLength, ParityCheckFailed, InsufficientData, Quiet}
+use Rattle.extract.specs.declared.Refusal.{Refusal}
 use Rattle.extract.specs.Record.{fits_of, unread}
 use Rattle.extract.specs.Fits.{Itself, Fits}
 use Rattle.extract.specs.Calls.{answer_of, answered_of, asked_of}
@@ -86,7 +87,7 @@ end_taken d position errors p e len =
 -- 2. What is told of an answer, by how it is heard.
 
 -- a line is an event's line
-record Line (ans : Answer) (h : Held) : Type 0 where
+record Line (ans : Result Answer Refusal) (h : Held) : Type 0 where
   event : Event
   tells : tell_of ans h ≡ told event h
   words : words_of ans h.extractor.stream.consumed.0 ≡ event_words event
@@ -101,29 +102,29 @@ is_refused Heard.Line = false
 is_refused Heard.Dry = false
 is_refused Heard.Refused = true
 
-heard_line : (ans : Answer) (h : Held) → heard_of ans ≡ Heard.Line → Line ans h
-heard_line (AUnit u start) h e = record { event = handed u; tells = refl; words = refl }
-heard_line (InvalidAccessUnitLength n m) h e = record { event = too_short n m h.extractor.stream.consumed; tells = refl; words = refl }
-heard_line ParityCheckFailed h e = record { event = failed h.extractor.stream.consumed; tells = refl; words = refl }
-heard_line InsufficientData h e = absurd (false≢true (ap is_line e))
-heard_line Quiet h e = absurd (false≢true (ap is_line e))
-heard_line BadRecord h e = absurd (false≢true (ap is_line e))
+heard_line : (ans : Result Answer Refusal) (h : Held) → heard_of ans ≡ Heard.Line → Line ans h
+heard_line (Ok (AUnit u start)) h e = record { event = handed u; tells = refl; words = refl }
+heard_line (Ok (InvalidAccessUnitLength n m)) h e = record { event = too_short n m h.extractor.stream.consumed; tells = refl; words = refl }
+heard_line (Ok ParityCheckFailed) h e = record { event = failed h.extractor.stream.consumed; tells = refl; words = refl }
+heard_line (Ok InsufficientData) h e = absurd (false≢true (ap is_line e))
+heard_line (Ok Quiet) h e = absurd (false≢true (ap is_line e))
+heard_line (Err r) h e = absurd (false≢true (ap is_line e))
 
 -- a dry answer, and number 1, tell nothing
-tells_nothing : (ans : Answer) (h : Held) → is_line (heard_of ans) ≡ false → tell_of ans h ≡ dried h
-tells_nothing (AUnit u start) h e = absurd (false≢true (sym e))
-tells_nothing (InvalidAccessUnitLength n m) h e = absurd (false≢true (sym e))
-tells_nothing ParityCheckFailed h e = absurd (false≢true (sym e))
-tells_nothing InsufficientData h e = refl
-tells_nothing Quiet h e = refl
-tells_nothing BadRecord h e = refl
+tells_nothing : (ans : Result Answer Refusal) (h : Held) → is_line (heard_of ans) ≡ false → tell_of ans h ≡ dried h
+tells_nothing (Ok (AUnit u start)) h e = absurd (false≢true (sym e))
+tells_nothing (Ok (InvalidAccessUnitLength n m)) h e = absurd (false≢true (sym e))
+tells_nothing (Ok ParityCheckFailed) h e = absurd (false≢true (sym e))
+tells_nothing (Ok InsufficientData) h e = refl
+tells_nothing (Ok Quiet) h e = refl
+tells_nothing (Err r) h e = refl
 
 -- number 1 is not given where the record fits
-dry_not_refused : (b : Bool) → is_refused (heard_of (pick b InsufficientData Quiet)) ≡ false
+dry_not_refused : (b : Bool) → is_refused (heard_of (Ok (pick b InsufficientData Quiet))) ≡ false
 dry_not_refused true = refl
 dry_not_refused false = refl
 
-spoken_not_refused : (at : ℕ) (e : Event) → is_refused (heard_of (answer_of at e)) ≡ false
+spoken_not_refused : (at : ℕ) (e : Event) → is_refused (heard_of (Ok (answer_of at e))) ≡ false
 spoken_not_refused at (handed u) = refl
 spoken_not_refused at (too_short n m p) = refl
 spoken_not_refused at (failed p) = refl
@@ -133,7 +134,7 @@ unfolding answered_of
 answered_not_refused r (Scan.ran_dry s u) = dry_not_refused s.locked
 answered_not_refused r (Scan.spoke e s u) = spoken_not_refused _ e
 
-waits_not_refused : (r : Extractor) (b : Bool) (x : Scan.Answer Stream Event) → is_refused (heard_of (pick b (record { extractor = r; answer = Quiet }) (answered_of r x)).answer) ≡ false
+waits_not_refused : (r : Extractor) (b : Bool) (x : Scan.Answer Stream Event) → is_refused (heard_of (pick b (record { extractor = r; answer = Ok Quiet }) (answered_of r x)).answer) ≡ false
 waits_not_refused r true x = refl
 waits_not_refused r false x = answered_not_refused r x
 
@@ -144,10 +145,10 @@ fits_not_refused r buf f = rw f (waits_not_refused r (eqb r.unanswered 0) (Scan.
 -- 3. One request of a history.
 
 -- the numbers of an event that a fitting reader has passed
-small_line : (ans : Answer) (h : Held) (z : heard_of ans ≡ Heard.Line) → IfUnit (Passed h.extractor.stream) (heard_line ans h z).event → Itself h.extractor
+small_line : (ans : Result Answer Refusal) (h : Held) (z : heard_of ans ≡ Heard.Line) → IfUnit (Passed h.extractor.stream) (heard_line ans h z).event → Itself h.extractor
     → Small (heard_line ans h z).event
 unfolding heard_line
-small_line (AUnit u start) h z p f =
+small_line (Ok (AUnit u start)) h z p f =
     let i = p.1 in
     let j = p.0 in
     let c = f.counted in
@@ -157,12 +158,12 @@ small_line (AUnit u start) h z p f =
     let y : u.position.0 < 18446744073709551616 = omega arith in
     let w : u.length < 18446744073709551616 = omega arith in
     (x, (y, w))
-small_line (InvalidAccessUnitLength n m) h z p f =
+small_line (Ok (InvalidAccessUnitLength n m)) h z p f =
     let d = f.adds in let t = f.total in let y : h.extractor.stream.consumed.0 < 18446744073709551616 = omega arith in y
-small_line ParityCheckFailed h z p f = let d = f.adds in let t = f.total in let y : h.extractor.stream.consumed.0 < 18446744073709551616 = omega arith in y
-small_line InsufficientData h z p f = absurd (false≢true (ap is_line z))
-small_line Quiet h z p f = absurd (false≢true (ap is_line z))
-small_line BadRecord h z p f = absurd (false≢true (ap is_line z))
+small_line (Ok ParityCheckFailed) h z p f = let d = f.adds in let t = f.total in let y : h.extractor.stream.consumed.0 < 18446744073709551616 = omega arith in y
+small_line (Ok InsufficientData) h z p f = absurd (false≢true (ap is_line z))
+small_line (Ok Quiet) h z p f = absurd (false≢true (ap is_line z))
+small_line (Err r) h z p f = absurd (false≢true (ap is_line z))
 
 last_of : (P : Event → Type 0) (k : ℕ) (es : List Event) (e : Event) → Numbered (λ j. P) k (es ++ (e ∷ [])) → P e
 last_of P k [] e h = h.0

@@ -1,16 +1,15 @@
 -- Where there is room for all of them, words put one behind the other are one word put at the first one's place; and a line has room in 80 bytes.
-use Rattle.std.specs.Prelude.{ℕ, zero, suc, ◌+◌, ◌/◌, ◌%◌, ◌^◌, ◌*◌, ◌≤◌, ◌<◌, ◌≡◌, refl, Bool, true, false, List, [], ◌∷◌, ◌++◌, ltb, length, take, drop}
+use Rattle.std.specs.Prelude.{ℕ, zero, suc, ◌+◌, ◌/◌, ◌%◌, ◌^◌, ◌*◌, ◌≤◌, ◌<◌, ◌≡◌, refl, Bool, true, false, List, [], ◌∷◌, ◌++◌, ltb, length, take, drop, None, Option, Some}
 use Rattle.std.proofs.Common.{pow-suc, add-zero, arith, ltb-false, sym, ap, ap₂, ◌∙◌, append_assoc, length-append, drop-drop}
 use Rattle.std.proofs.Math.Seq.{paste, paste-zero, take-length}
 use Rattle.std.proofs.lemmas.List.Edits.{length-paste, take-paste, drop-paste}
 use Rattle.laws.specs.Pick.{pick}
 use Rattle.rules.specs.declared.Unit.{Unit as TheUnit}
-use Rattle.rules.specs.declared.Waiting.{Waiting}
-use Rattle.rules.specs.declared.Waiting.TheVariants.{Nothing, Stamp}
 use Rattle.text.specs.Put.{put_of, decimal_in, decimal_of}
 use Rattle.text.specs.PutLaws.{put_room, end_room}
 use Rattle.lines.specs.Gather.{sheet}
 use Rattle.lines.specs.Lines.{bad_text, end_text, kind_text, stamp_text, pair_line_words, unit_words, joined, unit_line, bad_line, end_line, puts}
+use Rattle.timestamp.specs.declared.Timestamp.{Timestamp}
 
 -- a word that has room
 pub length_put : (d : List ℕ) (at : ℕ) (w : List ℕ) → at + length w ≤ length d → length (put_of d at w) ≡ length d
@@ -75,9 +74,9 @@ kind_short : (major : Bool) → length (kind_text major) ≤ 6
 kind_short true = omega arith
 kind_short false = omega arith
 
-stamp_short : (w : Waiting) → length (stamp_text w) ≤ 4
-stamp_short Nothing = omega arith
-stamp_short (Stamp t) = omega arith
+stamp_short : (w : Option Timestamp) → length (stamp_text w) ≤ 4
+stamp_short None = omega arith
+stamp_short (Some t) = omega arith
 
 -- A LINE HAS ROOM IN 80 BYTES
 pub unit_short : (u : TheUnit) → u.index < 2 ^ 64 → u.position.0 < 2 ^ 64 → u.length < 2 ^ 64 → length (unit_line u) ≤ 75

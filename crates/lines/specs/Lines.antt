@@ -1,9 +1,9 @@
 -- The lines of a report: document 01, "Cases by hand". Definitions only.
-use Rattle.std.specs.Prelude.{ℕ, Bool, true, false, List, [], ◌∷◌, ◌++◌, length}
+use Rattle.std.specs.Prelude.{ℕ, Bool, true, false, List, [], ◌∷◌, ◌++◌, length, None, Option, Some}
 use Rattle.rules.specs.declared.Unit.{Unit as TheUnit}
-use Rattle.rules.specs.declared.Waiting.{Waiting}
-use Rattle.rules.specs.declared.Waiting.TheVariants.{Nothing, Stamp}
 use Rattle.text.specs.Put.{put_of, put_end, decimal_of}
+use Rattle.text.specs.declared.Page.{Page}
+use Rattle.timestamp.specs.declared.Timestamp.{Timestamp}
 
 -- "AU ", "BAD ", "END ", a space and the line's end, byte by byte
 abbrev pub au_text : List ℕ
@@ -27,9 +27,9 @@ kind_text true = 32 ∷ 109 ∷ 97 ∷ 106 ∷ 111 ∷ 114 ∷ []
 kind_text false = 32 ∷ 109 ∷ 105 ∷ 110 ∷ 111 ∷ 114 ∷ []
 
 -- " ts" or " -", and the line's end
-abbrev pub stamp_text : Waiting → List ℕ
-stamp_text (Stamp t) = 32 ∷ 116 ∷ 115 ∷ 10 ∷ []
-stamp_text Nothing = 32 ∷ 45 ∷ 10 ∷ []
+abbrev pub stamp_text : Option Timestamp → List ℕ
+stamp_text (Some t) = 32 ∷ 116 ∷ 115 ∷ 10 ∷ []
+stamp_text None = 32 ∷ 45 ∷ 10 ∷ []
 
 -- a label and two numbers
 abbrev pub pair_words : List ℕ → ℕ → ℕ → List (List ℕ)
@@ -67,3 +67,7 @@ pub record Sheet : Type 0 where
 unfoldable pub puts : List ℕ → ℕ → List (List ℕ) → Sheet
 puts d at [] = record { holds = d; at = at }
 puts d at (w ∷ ws) = puts (put_of d at w) (put_end (length d) at (length w)) ws
+
+-- a page after these words
+abbrev pub page_of : Page → List (List ℕ) → Page
+page_of p ws = record p { bytes = record p.bytes { now = (puts p.bytes.now p.end ws).holds }; end = (puts p.bytes.now p.end ws).at }

@@ -5,12 +5,14 @@
 // out, and the crate `reporting` only hands the bytes on.
 #![tactic(auto)]
 
-ghost use Rattle.std.specs.Prelude.{◌≤◌, ◌≡◌, [], ◌∷◌, leb};
-ghost use Rattle.lines.specs.Lines.{puts, pair_words, pair_line_words, kind_text, stamp_text, unit_words};
-ghost use Rattle.lines.specs.Gather.{words_of, heard_of, gathered_of, end_of};
+ghost use Rattle.std.specs.Prelude.{◌≡◌, [], ◌∷◌, leb};
+ghost use Rattle.lines.specs.Lines.{page_of, pair_words, pair_line_words, kind_text, stamp_text, unit_words};
+ghost use Rattle.lines.specs.Gather.{words_of, heard_of, gathered_on, page_by, gathered_of, end_of};
 
-use extract::{Answer, Extractor};
-use rules::{Unit, Waiting};
+use extract::{Answer, Extractor, Refusal};
+use rules::Unit;
+use text::Page;
+use timestamp::Timestamp;
 
 // What an answer is to the lines.
 #[derive(Clone, Copy)]
@@ -37,57 +39,52 @@ pub struct Gathered {
 }
 
 // `LABEL a b`
-fn put_pair(out: &mut [u8], at: usize, label: &[u8], a: u64, b: u64) -> usize
-    ensures at { result ≡ (puts out.old at (pair_words label.now a b)).at }
-    ensures holds { out.new ≡ (puts out.old at (pair_words label.now a b)).holds }
+#[tactic(auto, unfolding(crate::specs::Lines::puts))]
+fn put_pair(page: &mut Page<'_>, label: &[u8], a: u64, b: u64)
+    ensures { page.new ≡ page_of page.old (pair_words label.now a b) }
 {
-    let mut end = text::put(out, at, label);
-    end = text::put_decimal(out, end, a);
-    end = text::put(out, end, b" ");
-    text::put_decimal(out, end, b)
+    page.put(label);
+    page.put_decimal(a);
+    page.put(b" ");
+    page.put_decimal(b);
 }
 
 // The same as a line of its own.
-fn put_pair_line(out: &mut [u8], at: usize, label: &[u8], a: u64, b: u64) -> usize
-    ensures at { result ≡ (puts out.old at (pair_line_words label.now a b)).at }
-    ensures holds { out.new ≡ (puts out.old at (pair_line_words label.now a b)).holds }
+#[tactic(auto, unfolding(crate::specs::Lines::puts))]
+fn put_pair_line(page: &mut Page<'_>, label: &[u8], a: u64, b: u64)
+    ensures { page.new ≡ page_of page.old (pair_line_words label.now a b) }
 {
-    let end = put_pair(out, at, label, a, b);
-    text::put(out, end, b"\n")
+    put_pair(page, label, a, b);
+    page.put(b"\n");
 }
 
-fn put_kind(out: &mut [u8], at: usize, major: bool) -> usize
-    ensures at { result ≡ (puts out.old at (kind_text major ∷ [])).at }
-    ensures holds { out.new ≡ (puts out.old at (kind_text major ∷ [])).holds }
+#[tactic(auto, unfolding(crate::specs::Lines::puts))]
+fn put_kind(page: &mut Page<'_>, major: bool)
+    ensures { page.new ≡ page_of page.old (kind_text major ∷ []) }
 {
-    if major {
-        text::put(out, at, b" major")
-    } else {
-        text::put(out, at, b" minor")
-    }
+    page.put(if major { b" major" } else { b" minor" });
 }
 
-fn put_stamp(out: &mut [u8], at: usize, waiting: Waiting) -> usize
-    ensures at { result ≡ (puts out.old at (stamp_text waiting ∷ [])).at }
-    ensures holds { out.new ≡ (puts out.old at (stamp_text waiting ∷ [])).holds }
+#[tactic(auto, unfolding(crate::specs::Lines::puts))]
+fn put_stamp(page: &mut Page<'_>, waiting: Option<Timestamp>)
+    ensures { page.new ≡ page_of page.old (stamp_text waiting ∷ []) }
 {
     match waiting {
-        Waiting::Stamp(_) => text::put(out, at, b" ts\n"),
-        Waiting::Nothing => text::put(out, at, b" -\n"),
+        Some(_) => page.put(b" ts\n"),
+        None => page.put(b" -\n"),
     }
 }
 
 // `AU index position length major|minor ts|-`
-fn put_unit(out: &mut [u8], at: usize, unit: Unit) -> usize
-    ensures at { result ≡ (puts out.old at (unit_words unit)).at }
-    ensures holds { out.new ≡ (puts out.old at (unit_words unit)).holds }
+#[tactic(auto, unfolding(crate::specs::Lines::puts))]
+fn put_unit(page: &mut Page<'_>, unit: Unit)
+    ensures { page.new ≡ page_of page.old (unit_words unit) }
 {
-    let mut end = put_pair(out, at, b"AU ", unit.index, unit.position.0);
-    end = text::put(out, end, b" ");
-    end = text::put_decimal(out, end, unit.length as u64);
-    end = put_kind(out, end, unit.major);
-    let waiting = unit.waiting;
-    put_stamp(out, end, waiting)
+    put_pair(page, b"AU ", unit.index, unit.position.0);
+    page.put(b" ");
+    page.put_decimal(u64::from(unit.length));
+    put_kind(page, unit.major);
+    put_stamp(page, unit.waiting);
 }
 
 // Is there room for one more line? "AU ", three numbers of at most 20 digits, three spaces, "major", " ts" and the line's end are 75 bytes; 80 of
@@ -99,76 +96,58 @@ fn has_room(used: usize) -> bool
 }
 
 // The line that an answer gives, the reader's position after it being so many bytes; dry answers give none.
-fn put_answer(out: &mut [u8], at: usize, answer: Answer, position: u64) -> usize
-    ensures at { result ≡ (puts out.old at (words_of answer position)).at }
-    ensures holds { out.new ≡ (puts out.old at (words_of answer position)).holds }
+#[tactic(auto, unfolding(crate::specs::Lines::puts))]
+fn put_answer(page: &mut Page<'_>, answer: Result<Answer, Refusal>, position: u64)
+    ensures { page.new ≡ page_of page.old (words_of answer position) }
 {
     match answer {
-        Answer::Unit { unit, start: _ } => put_unit(out, at, unit),
-        Answer::InvalidAccessUnitLength {
-            actual: _,
-            minimum: _,
-        } => put_pair_line(out, at, b"BAD ", 5, position),
-        Answer::ParityCheckFailed => put_pair_line(out, at, b"BAD ", 6, position),
-        Answer::InsufficientData => at,
-        Answer::Quiet => at,
-        Answer::Record => at,
+        Ok(Answer::Unit { unit, .. }) => put_unit(page, unit),
+        Ok(Answer::InvalidAccessUnitLength { .. }) => put_pair_line(page, b"BAD ", 5, position),
+        Ok(Answer::ParityCheckFailed) => put_pair_line(page, b"BAD ", 6, position),
+        Ok(Answer::InsufficientData) | Ok(Answer::Quiet) | Err(_) => {}
     }
 }
 
-// Whether an answer is a line, dry, or number 1. No wildcard: a new answer must be sorted by hand.
-fn heard_as(answer: Answer) -> Heard
+// Whether an answer is a line, dry, or a refusal. No wildcard: a new answer must be sorted by hand.
+fn heard_as(answer: Result<Answer, Refusal>) -> Heard
     ensures { result ≡ heard_of answer }
 {
     match answer {
-        Answer::Unit { unit: _, start: _ } => Heard::Line,
-        Answer::InvalidAccessUnitLength {
-            actual: _,
-            minimum: _,
-        } => Heard::Line,
-        Answer::ParityCheckFailed => Heard::Line,
-        Answer::InsufficientData => Heard::Dry,
-        Answer::Quiet => Heard::Dry,
-        Answer::Record => Heard::Refused,
+        Ok(Answer::Unit { .. }) => Heard::Line,
+        Ok(Answer::InvalidAccessUnitLength { .. }) => Heard::Line,
+        Ok(Answer::ParityCheckFailed) => Heard::Line,
+        Ok(Answer::InsufficientData) => Heard::Dry,
+        Ok(Answer::Quiet) => Heard::Dry,
+        Err(_) => Heard::Refused,
     }
 }
 
 // Requests until dry, or until the room is full. Each turn but the last puts a line, so no more turns are needed than there are bytes.
-pub fn gather(reader: Extractor, buf: &[u8], out: &mut [u8; 65536]) -> Gathered
-    ensures says { result ≡ (gathered_of reader buf.now out.old).gathered }
-    ensures holds { out.new ≡ (gathered_of reader buf.now out.old).holds }
+#[tactic(auto, using(crate::proofs::GatherWays::gather_spent, crate::proofs::GatherWays::gather_full, crate::proofs::GatherWays::gather_dry, crate::proofs::GatherWays::gather_refused, crate::proofs::GatherWays::gather_on))]
+fn put_requests(page: &mut Page<'_>, reader: Extractor, buf: &[u8]) -> Gathered
+    ensures says { result ≡ (gathered_on reader buf.now page.old).gathered }
+    ensures holds { page.new ≡ page_by (gathered_on reader buf.now page.old) page.old }
 {
     let mut reader = reader;
-    let mut used = 0;
-    let mut turns: usize = 65536;
-    while 0 < turns {
-        if has_room(used) {} else {
-            return Gathered {
-                reader,
-                used,
-                ended: Ended::Full,
-            };
+    for _ in 0..65536u32 {
+        if !has_room(page.end) {
+            break;
         }
         let asked = reader.next(buf);
-        let answer = asked.answer;
         reader = asked.extractor;
-        let heard = heard_as(answer);
-        match heard {
-            Heard::Line => {
-                used = put_answer(out, used, answer, reader.stream.consumed.0);
-                turns -= 1;
-            }
+        match heard_as(asked.answer) {
+            Heard::Line => put_answer(page, asked.answer, reader.stream.consumed.0),
             Heard::Dry => {
                 return Gathered {
                     reader,
-                    used,
+                    used: page.end,
                     ended: Ended::Dry,
                 };
             }
             Heard::Refused => {
                 return Gathered {
                     reader,
-                    used,
+                    used: page.end,
                     ended: Ended::Refused,
                 };
             }
@@ -176,9 +155,18 @@ pub fn gather(reader: Extractor, buf: &[u8], out: &mut [u8; 65536]) -> Gathered
     }
     Gathered {
         reader,
-        used,
+        used: page.end,
         ended: Ended::Full,
     }
+}
+
+// The lines of a reader's requests, in a lent slice.
+pub fn gather(reader: Extractor, buf: &[u8], out: &mut [u8; 65536]) -> Gathered
+    ensures says { result ≡ (gathered_of reader buf.now out.old).gathered }
+    ensures holds { out.new ≡ (gathered_of reader buf.now out.old).holds }
+{
+    let mut page = Page::new(out);
+    put_requests(&mut page, reader, buf)
 }
 
 // `END position errors`
@@ -187,5 +175,7 @@ pub fn put_end(reader: Extractor, out: &mut [u8; 65536]) -> usize
     ensures holds { out.new ≡ (end_of reader out.old).holds }
 {
     let s = reader.stream;
-    put_pair_line(out, 0, b"END ", s.consumed.0, s.losses.errors)
+    let mut page = Page::new(out);
+    put_pair_line(&mut page, b"END ", s.consumed.0, s.losses.errors);
+    page.end
 }

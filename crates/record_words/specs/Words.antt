@@ -1,14 +1,10 @@
 -- What the words of a record say, and how a record is laid on them: definitions only. The words' places are listed in src/lib.rt.
-use Rattle.std.specs.Prelude.{ℕ, ◌%◌, List, ltb, get_or, set}
+use Rattle.std.specs.Prelude.{ℕ, ◌%◌, List, ltb, get_or, set, None, Option, Some}
 use Rattle.laws.specs.Pick.{pick}
 use Rattle.laws.specs.Flags.{yes_of, flag_of}
 use Rattle.crc.specs.declared.Algorithm.{Algorithm}
-use Rattle.timestamp.specs.declared.Framerate.{Framerate}
-use Rattle.timestamp.specs.declared.Framerate.TheVariants.{R23_976, R24, R25, R29_97, R30, R50, R59_94, R60, Invalid}
 use Rattle.timestamp.specs.declared.Timestamp.{Timestamp}
-use Rattle.timestamp.specs.Timestamp.{rate_of}
-use Rattle.rules.specs.declared.Waiting.{Waiting}
-use Rattle.rules.specs.declared.Waiting.TheVariants.{Nothing, Stamp}
+use Rattle.timestamp.specs.Timestamp.{rate_of, rate_code}
 use Rattle.rules.specs.declared.Stream.{Stream}
 use Rattle.extract.specs.declared.Extractor.{Extractor}
 
@@ -21,18 +17,6 @@ half w = w % 65536
 
 abbrev pub up_to : ℕ → ℕ → ℕ
 up_to limit w = pick (ltb w limit) w limit
-
--- "four bits of rate (1 to 8 ..; else invalid with its number)": a code is kept as it came
-abbrev pub rate_code : Framerate → ℕ
-rate_code R23_976 = 1
-rate_code R24 = 2
-rate_code R25 = 3
-rate_code R29_97 = 4
-rate_code R30 = 5
-rate_code R50 = 6
-rate_code R59_94 = 7
-rate_code R60 = 8
-rate_code (Invalid n) = n
 
 -- a timestamp, if there is one
 unfoldable pub stamp_of : List ℕ → Timestamp
@@ -49,8 +33,8 @@ stamp_of ws =
       dropframe = yes_of (word ws 9);
     }
 
-unfoldable pub waiting_of : List ℕ → Waiting
-waiting_of ws = pick (yes_of (word ws 0)) (Stamp (stamp_of ws)) Nothing
+unfoldable pub waiting_of : List ℕ → Option Timestamp
+waiting_of ws = pick (yes_of (word ws 0)) (Some (stamp_of ws)) None
 
 unfoldable pub stamp_words : List ℕ → Timestamp → List ℕ
 stamp_words ws t =
@@ -74,9 +58,9 @@ stamp_words ws t =
     8 (flag_of t.reserved2))
     9 (flag_of t.dropframe)
 
-unfoldable pub stamp_on : List ℕ → Waiting → List ℕ
-stamp_on ws Nothing = set ws 0 0
-stamp_on ws (Stamp t) = stamp_words ws t
+unfoldable pub stamp_on : List ℕ → Option Timestamp → List ℕ
+stamp_on ws None = set ws 0 0
+stamp_on ws (Some t) = stamp_words ws t
 
 -- the check's setting, as it is given at opening and as the words say it
 abbrev pub setting_of : ℕ → ℕ → ℕ → Algorithm

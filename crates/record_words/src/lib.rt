@@ -9,64 +9,45 @@
 //   10 start  11 end  12 accepted  13 unanswered  14 consumed  15 frames  16 errors  17 substreams  18 locked  19 seen  20 poly  21 init  22 zeros
 #![tactic(auto)]
 
-ghost use Rattle.std.specs.Prelude.{◌≡◌, ◌≤◌};
+ghost use Rattle.std.specs.Prelude.{◌≡◌};
 ghost use Rattle.laws.specs.Flags.{yes_of, flag_of};
-ghost use Rattle.record_words.specs.Words.{up_to, rate_code, stamp_of, waiting_of, stamp_words, stamp_on, check_of, stream_of, reader_of, left_on, reader_on};
+ghost use Rattle.record_words.specs.Words.{stamp_of, waiting_of, stamp_words, stamp_on, check_of, stream_of, reader_of, left_on, reader_on};
 
 use crc::Algorithm;
 use extract::Extractor;
 use kinds::BytePosition;
-use rules::{Losses, Stream, Waiting};
+use rules::{Losses, Stream};
+use std::array;
 use timestamp::{Framerate, Timestamp};
 
 // Any word but zero is yes.
 pub fn yes(w: u64) -> bool
     ensures { result ≡ yes_of w }
 {
-    0 < w
+    w != 0
 }
 
 pub fn flag(b: bool) -> u64
     ensures { result ≡ flag_of b }
 {
-    if b { 1 } else { 0 }
-}
-
-// The word, or the limit where it is above: what number 1 refuses above the limit stays refused.
-fn up_to(w: u64, limit: u64) -> u64
-    ensures value { result ≡ up_to limit w }
-    ensures within { result ≤ limit }
-{
-    if w < limit { w } else { limit }
-}
-
-fn rate_code(f: Framerate) -> u8
-    ensures { result ≡ rate_code f }
-{
-    match f {
-        Framerate::R23_976 => 1,
-        Framerate::R24 => 2,
-        Framerate::R25 => 3,
-        Framerate::R29_97 => 4,
-        Framerate::R30 => 5,
-        Framerate::R50 => 6,
-        Framerate::R59_94 => 7,
-        Framerate::R60 => 8,
-        Framerate::Invalid(n) => n,
-    }
+    u64::from(b)
 }
 
 // The timestamp that the words say.
+#[tactic(auto, unfolding(crate::specs::Words::stamp_of))]
 fn stamp(words: &[u64; 24]) -> Timestamp
     ensures { result ≡ stamp_of words.now }
 {
+    let [hours, minutes, seconds, frames, samples, reserved1]: [u16; 6] = array::from_fn(
+        |k| (words[k + 1] % 65536) as u16,
+    );
     Timestamp {
-        hours: (words[1] % 65536) as u16,
-        minutes: (words[2] % 65536) as u16,
-        seconds: (words[3] % 65536) as u16,
-        frames: (words[4] % 65536) as u16,
-        samples: (words[5] % 65536) as u16,
-        reserved1: (words[6] % 65536) as u16,
+        hours,
+        minutes,
+        seconds,
+        frames,
+        samples,
+        reserved1,
         framerate: Framerate::from((words[7] % 256) as u8),
         reserved2: yes(words[8]),
         dropframe: yes(words[9]),
@@ -74,47 +55,42 @@ fn stamp(words: &[u64; 24]) -> Timestamp
 }
 
 // The timestamp that waits, if one does.
-fn waiting(words: &[u64; 24]) -> Waiting
+#[tactic(auto, unfolding(crate::specs::Words::waiting_of))]
+fn waiting(words: &[u64; 24]) -> Option<Timestamp>
     ensures { result ≡ waiting_of words.now }
 {
-    if yes(words[0]) {
-        Waiting::Stamp(stamp(words))
-    } else {
-        Waiting::Nothing
-    }
+    yes(words[0]).then(|| stamp(words))
 }
 
+#[tactic(auto, unfolding(crate::specs::Words::stamp_words))]
 fn stamp_words(words: &mut [u64; 24], t: Timestamp)
     ensures { words.new ≡ stamp_words words.old t }
 {
-    let f = t.framerate;
     words[0] = 1;
-    words[1] = t.hours as u64;
-    words[2] = t.minutes as u64;
-    words[3] = t.seconds as u64;
-    words[4] = t.frames as u64;
-    words[5] = t.samples as u64;
-    words[6] = t.reserved1 as u64;
-    words[7] = rate_code(f) as u64;
+    words[1] = u64::from(t.hours);
+    words[2] = u64::from(t.minutes);
+    words[3] = u64::from(t.seconds);
+    words[4] = u64::from(t.frames);
+    words[5] = u64::from(t.samples);
+    words[6] = u64::from(t.reserved1);
+    words[7] = u64::from(u8::from(t.framerate));
     words[8] = flag(t.reserved2);
     words[9] = flag(t.dropframe);
 }
 
 // Where there is no timestamp its other words are not looked at, and not written.
-pub fn stamp_on(words: &mut [u64; 24], w: Waiting)
-    ensures { words.new ≡ stamp_on words.old w }
+#[tactic(auto, unfolding(crate::specs::Words::stamp_on))]
+pub fn stamp_on(words: &mut [u64; 24], waiting: Option<Timestamp>)
+    ensures { words.new ≡ stamp_on words.old waiting }
 {
-    match w {
-        Waiting::Nothing => {
-            words[0] = 0;
-        }
-        Waiting::Stamp(t) => {
-            stamp_words(words, t);
-        }
+    match waiting {
+        None => words[0] = 0,
+        Some(t) => stamp_words(words, t),
     }
 }
 
 // The check's setting.
+#[tactic(auto, unfolding(crate::specs::Words::check_of))]
 fn setting(words: &[u64; 24]) -> Algorithm
     ensures { result ≡ check_of words.now }
 {
@@ -125,6 +101,7 @@ fn setting(words: &[u64; 24]) -> Algorithm
     }
 }
 
+#[tactic(auto, unfolding(crate::specs::Words::stream_of))]
 fn stream_of(words: &[u64; 24]) -> Stream
     ensures { result ≡ stream_of words.now }
 {
@@ -132,7 +109,7 @@ fn stream_of(words: &[u64; 24]) -> Stream
         consumed: BytePosition(words[14]),
         frames: words[15],
         losses: Losses { errors: words[16] },
-        substreams: up_to(words[17], 16) as u8,
+        substreams: words[17].min(16) as u8,
         locked: yes(words[18]),
         seen: yes(words[19]),
         waiting: waiting(words),
@@ -140,7 +117,8 @@ fn stream_of(words: &[u64; 24]) -> Stream
     }
 }
 
-// The record that the words say.
+// The record that the words say. Number 1 bounds pushes and substreams: what it refuses above its limit stays refused.
+#[tactic(auto, unfolding(crate::specs::Words::reader_of))]
 pub fn reader_of(words: &[u64; 24]) -> Extractor
     ensures { result ≡ reader_of words.now }
 {
@@ -148,36 +126,38 @@ pub fn reader_of(words: &[u64; 24]) -> Extractor
         start: words[10] as usize,
         end: words[11] as usize,
         accepted: words[12],
-        unanswered: up_to(words[13], 65536) as u32,
+        unanswered: words[13].min(65536) as u32,
         stream: stream_of(words),
     }
 }
 
 // What a request may change of a record.
+#[tactic(auto, unfolding(crate::specs::Words::left_on))]
 pub fn left_on(words: &mut [u64; 24], e: Extractor)
     ensures { words.new ≡ left_on words.old e }
 {
     let s = e.stream;
-    let w = s.waiting;
     words[10] = e.start as u64;
-    words[13] = e.unanswered as u64;
+    words[13] = u64::from(e.unanswered);
     words[14] = s.consumed.0;
     words[15] = s.frames;
     words[16] = s.losses.errors;
-    words[17] = s.substreams as u64;
+    words[17] = u64::from(s.substreams);
     words[18] = flag(s.locked);
     words[19] = flag(s.seen);
-    stamp_on(words, w);
+    stamp_on(words, s.waiting);
 }
 
 // The whole record.
+#[tactic(auto, unfolding(crate::specs::Words::reader_on))]
 pub fn reader_on(words: &mut [u64; 24], e: Extractor)
     ensures { words.new ≡ reader_on words.old e }
 {
+    let check = e.stream.check;
     words[11] = e.end as u64;
     words[12] = e.accepted;
-    words[20] = e.stream.check.poly as u64;
-    words[21] = e.stream.check.init as u64;
-    words[22] = flag(e.stream.check.zeros);
+    words[20] = u64::from(check.poly);
+    words[21] = u64::from(check.init);
+    words[22] = flag(check.zeros);
     left_on(words, e);
 }

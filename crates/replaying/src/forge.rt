@@ -1,258 +1,147 @@
-// `forge FIELD VALUE` sets one field of a record, so that a script can show number 1 and the limits that no stream reaches. A field goes by its
-// number in the list of names that its call reads.
-use crate::reader::Reader;
-use crate::words::{low8, low32};
-use extract::Extractor;
+// `forge FIELD VALUE` sets one field of a record, so that a script can show number 1 and the limits that no stream reaches. Where no value
+// stands, it is 0; of one that is wider than its field, the low bits are taken.
+use crate::reader::{Reader, Room};
+use crate::words::{Numbers, Words};
 use kinds::BytePosition;
-use levels::{Depth, Levels, SubstreamDepth};
-use rules::{Losses, Stream};
+use levels::Levels;
+use rules::Losses;
 use timing::HiresOutputTimingState;
 
+// How much the reader is lent, or a field of its record.
 #[derive(Clone, Copy)]
-pub(crate) struct ForgedReader {
-    pub good: bool,
-    pub reader: Reader,
+pub(crate) enum ReaderField {
+    Buffer(Room),
+    Start(usize),
+    End(usize),
+    Accepted(u64),
+    Unanswered(u32),
+    Consumed(u64),
+    Frames(u64),
+    Errors(u64),
+    Substreams(u8),
+    Locked(bool),
+    Seen(bool),
 }
 
+impl ReaderField {
+    pub(crate) fn parse(mut words: Words) -> Option<ReaderField> {
+        let name = words.next()?;
+        let value = value_at(&words.numbers()?, 0);
+        Some(match name {
+            b"buffer" => ReaderField::Buffer(Room::new(value)?),
+            b"start" => ReaderField::Start(value as usize),
+            b"end" => ReaderField::End(value as usize),
+            b"accepted" => ReaderField::Accepted(value),
+            b"unanswered" => ReaderField::Unanswered((value & 0xffff_ffff) as u32),
+            b"consumed" => ReaderField::Consumed(value),
+            b"frames" => ReaderField::Frames(value),
+            b"errors" => ReaderField::Errors(value),
+            b"substreams" => ReaderField::Substreams((value & 0xff) as u8),
+            b"locked" => ReaderField::Locked(value != 0),
+            b"seen" => ReaderField::Seen(value != 0),
+            _ => return None,
+        })
+    }
+
+    pub(crate) fn set(self, reader: &mut Reader) {
+        let extractor = &mut reader.extractor;
+        let stream = &mut extractor.stream;
+        match self {
+            ReaderField::Buffer(room) => reader.room = room,
+            ReaderField::Start(n) => extractor.start = n,
+            ReaderField::End(n) => extractor.end = n,
+            ReaderField::Accepted(n) => extractor.accepted = n,
+            ReaderField::Unanswered(n) => extractor.unanswered = n,
+            ReaderField::Consumed(n) => stream.consumed = BytePosition(n),
+            ReaderField::Frames(n) => stream.frames = n,
+            ReaderField::Errors(errors) => stream.losses = Losses { errors },
+            ReaderField::Substreams(n) => stream.substreams = n,
+            ReaderField::Locked(locked) => stream.locked = locked,
+            ReaderField::Seen(seen) => stream.seen = seen,
+        }
+    }
+}
+
+// A field of the timing record.
 #[derive(Clone, Copy)]
-pub(crate) struct ForgedTiming {
-    pub good: bool,
-    pub timing: HiresOutputTimingState,
+pub(crate) enum TimingField {
+    State(u8),
+    Counter(u8),
+    Bits(u32),
 }
 
+impl TimingField {
+    pub(crate) fn parse(mut words: Words) -> Option<TimingField> {
+        let name = words.next()?;
+        let value = value_at(&words.numbers()?, 0);
+        match name {
+            b"state" => Some(TimingField::State((value & 0xff) as u8)),
+            b"counter" => Some(TimingField::Counter((value & 0xff) as u8)),
+            b"bits" => Some(TimingField::Bits((value & 0xffff_ffff) as u32)),
+            _ => None,
+        }
+    }
+
+    pub(crate) fn set(self, record: &mut HiresOutputTimingState) {
+        match self {
+            TimingField::State(n) => record.state = n,
+            TimingField::Counter(n) => record.counter = n,
+            TimingField::Bits(n) => record.bits = n,
+        }
+    }
+}
+
+// A slot number of a window, or a depth of accumulator or substream k.
 #[derive(Clone, Copy)]
-pub(crate) struct ForgedLevels {
-    pub good: bool,
-    pub levels: Levels,
+pub(crate) enum WindowField {
+    Read(usize),
+    Write(usize),
+    Total { k: usize, bytes: u64 },
+    Stream { k: usize, bytes: u64 },
+    Substream { k: usize, bytes: u64 },
 }
 
-#[derive(Clone, Copy)]
-struct ForgedStream {
-    good: bool,
-    stream: Stream,
-}
-
-fn forged_stream(stream: Stream) -> ForgedStream {
-    ForgedStream { good: true, stream }
-}
-
-// `consumed`, `frames`, `errors`, `substreams`, `locked`, `seen`
-fn forge_stream(stream: Stream, field: usize, n: u64) -> ForgedStream {
-    let mut s = stream;
-    match field {
-        5 => {
-            let place = BytePosition(n);
-            s.consumed = place;
-            forged_stream(s)
-        }
-        6 => {
-            s.frames = n;
-            forged_stream(s)
-        }
-        7 => {
-            let losses = Losses { errors: n };
-            s.losses = losses;
-            forged_stream(s)
-        }
-        8 => {
-            s.substreams = low8(n);
-            forged_stream(s)
-        }
-        9 => {
-            s.locked = n != 0;
-            forged_stream(s)
-        }
-        10 => {
-            s.seen = n != 0;
-            forged_stream(s)
-        }
-        _ => ForgedStream {
-            good: false,
-            stream,
-        },
-    }
-}
-
-// `start`, `end`, `accepted`, `unanswered`
-fn forge_extractor(e: Extractor, field: usize, n: u64) -> Extractor {
-    let mut x = e;
-    match field {
-        1 => {
-            x.start = n as usize;
-            x
-        }
-        2 => {
-            x.end = n as usize;
-            x
-        }
-        3 => {
-            x.accepted = n;
-            x
-        }
-        _ => {
-            x.unanswered = low32(n);
-            x
+impl WindowField {
+    // k stands behind the value.
+    pub(crate) fn parse(mut words: Words) -> Option<WindowField> {
+        let name = words.next()?;
+        let numbers = words.numbers()?;
+        let bytes = value_at(&numbers, 0);
+        let k = value_at(&numbers, 1) as usize;
+        match name {
+            b"read" => Some(WindowField::Read(bytes as usize)),
+            b"write" => Some(WindowField::Write(bytes as usize)),
+            b"total" => Some(WindowField::Total { k, bytes }),
+            b"stream" => Some(WindowField::Stream { k, bytes }),
+            b"substream" => Some(WindowField::Substream { k, bytes }),
+            _ => None,
         }
     }
-}
 
-// The length of the buffer that the reader is lent.
-fn forge_room(reader: Reader, n: u64, most: usize) -> ForgedReader {
-    let extractor = reader.extractor;
-    let room = n as usize;
-    if most < room {
-        return ForgedReader {
-            good: false,
-            reader,
-        };
-    }
-    ForgedReader {
-        good: true,
-        reader: Reader { room, extractor },
-    }
-}
-
-// A field of what the rules know of the stream.
-fn forge_known(reader: Reader, field: usize, n: u64) -> ForgedReader {
-    let e = reader.extractor;
-    let s = e.stream;
-    let f = forge_stream(s, field, n);
-    let stream = f.stream;
-    let extractor = Extractor {
-        start: e.start,
-        end: e.end,
-        accepted: e.accepted,
-        unanswered: e.unanswered,
-        stream,
-    };
-    ForgedReader {
-        good: f.good,
-        reader: Reader {
-            room: reader.room,
-            extractor,
-        },
-    }
-}
-
-// `buffer`, the four fields of the reader's own, or a field of the stream's
-pub(crate) fn forge_reader(reader: Reader, field: usize, n: u64, most: usize) -> ForgedReader {
-    let room = reader.room;
-    let e = reader.extractor;
-    match field {
-        0 => forge_room(reader, n, most),
-        1..=4 => ForgedReader {
-            good: true,
-            reader: Reader {
-                room,
-                extractor: forge_extractor(e, field, n),
-            },
-        },
-        _ => forge_known(reader, field, n),
-    }
-}
-
-// `state`, `counter`, `bits`
-pub(crate) fn forge_timing(t: HiresOutputTimingState, field: usize, n: u64) -> ForgedTiming {
-    let mut x = t;
-    match field {
-        0 => {
-            x.state = low8(n);
-            ForgedTiming {
-                good: true,
-                timing: x,
+    // A k that names no accumulator or substream sets nothing.
+    pub(crate) fn set(self, levels: &mut Levels) {
+        match self {
+            WindowField::Read(n) => levels.read = n,
+            WindowField::Write(n) => levels.write = n,
+            WindowField::Total { k, bytes } => {
+                if let Some(depth) = levels.depth.get_mut(k) {
+                    depth.total = bytes;
+                }
+            }
+            WindowField::Stream { k, bytes } => {
+                if let Some(depth) = levels.depth.get_mut(k) {
+                    depth.stream = bytes;
+                }
+            }
+            WindowField::Substream { k, bytes } => {
+                if let Some(depth) = levels.substream.get_mut(k) {
+                    depth.bytes = bytes;
+                }
             }
         }
-        1 => {
-            x.counter = low8(n);
-            ForgedTiming {
-                good: true,
-                timing: x,
-            }
-        }
-        2 => {
-            x.bits = low32(n);
-            ForgedTiming {
-                good: true,
-                timing: x,
-            }
-        }
-        _ => ForgedTiming {
-            good: false,
-            timing: t,
-        },
     }
 }
 
-fn forge_depth(depth: [Depth; 5], k: usize, n: u64, stream: bool) -> [Depth; 5] {
-    let mut all = depth;
-    if k < 5 {
-        let d = all[k];
-        let peak = d.peak;
-        if stream {
-            all[k] = Depth {
-                total: d.total,
-                stream: n,
-                peak,
-            };
-        } else {
-            all[k] = Depth {
-                total: n,
-                stream: d.stream,
-                peak,
-            };
-        }
-    }
-    all
-}
-
-fn forge_substream(substream: [SubstreamDepth; 4], i: usize, n: u64) -> [SubstreamDepth; 4] {
-    let mut all = substream;
-    if i < 4 {
-        let s = all[i];
-        all[i] = SubstreamDepth {
-            bytes: n,
-            peak: s.peak,
-        };
-    }
-    all
-}
-
-fn forged_levels(levels: Levels) -> ForgedLevels {
-    ForgedLevels { good: true, levels }
-}
-
-// `read`, `write`, or the depth of accumulator or substream k: `total`, `stream`, `substream`
-pub(crate) fn forge_levels(l: Levels, field: usize, n: u64, k: usize) -> ForgedLevels {
-    let mut x = l;
-    let depth = l.depth;
-    let substream = l.substream;
-    match field {
-        0 => {
-            x.read = n as usize;
-            forged_levels(x)
-        }
-        1 => {
-            x.write = n as usize;
-            forged_levels(x)
-        }
-        2 => {
-            let d = forge_depth(depth, k, n, false);
-            x.depth = d;
-            forged_levels(x)
-        }
-        3 => {
-            let d = forge_depth(depth, k, n, true);
-            x.depth = d;
-            forged_levels(x)
-        }
-        4 => {
-            let s = forge_substream(substream, k, n);
-            x.substream = s;
-            forged_levels(x)
-        }
-        _ => ForgedLevels {
-            good: false,
-            levels: l,
-        },
-    }
+fn value_at(numbers: &Numbers, at: usize) -> u64 {
+    numbers.as_slice().get(at).copied().unwrap_or(0)
 }

@@ -1,318 +1,240 @@
-// Records and answers as parts of a text: every field, in the order of document 01.
-use crate::form::{
-    BYTES, DEPTH, LENGTH, NEXT, NO_STAMP, PREVIOUS, PUSH, Part, READER, REPORT, SLOTS, STAMP,
-    STATE, SUBSTREAMS, TIMING, UNIT, WINDOW, made, nothing,
-};
-use crate::sums::adler;
-use extract::{Answer, Extractor, PushAnswer};
-use levels::{Depth, Levels, SubstreamDepth};
-use rules::{Unit, Waiting};
+// Records and answers, as text: every field, in the order of document 01.
+use crate::sums::Adler32;
+use byte_caps::Cap;
+use extract::{Answer, Extractor, Refusal};
+use levels::{Depth, Levels};
+use rules::Unit;
+use std::fmt;
 use timestamp::{Framerate, Timestamp};
 use timing::{HiresOutputTimingState, HiresTimingFault};
-use window_rules::Underrun;
 
-// A number that says which of some texts is meant, and a number in that text.
+// A value, or a dash where there is none.
 #[derive(Clone, Copy)]
-struct Choice {
-    text: u64,
-    n: u64,
-}
+pub(crate) struct OrDash<T>(pub Option<T>);
 
-fn rate(r: Framerate) -> Choice {
-    match r {
-        Framerate::R23_976 => Choice { text: 0, n: 0 },
-        Framerate::R24 => Choice { text: 1, n: 0 },
-        Framerate::R25 => Choice { text: 2, n: 0 },
-        Framerate::R29_97 => Choice { text: 3, n: 0 },
-        Framerate::R30 => Choice { text: 4, n: 0 },
-        Framerate::R50 => Choice { text: 5, n: 0 },
-        Framerate::R59_94 => Choice { text: 6, n: 0 },
-        Framerate::R60 => Choice { text: 7, n: 0 },
-        Framerate::Invalid(n) => Choice {
-            text: 8,
-            n: n as u64,
-        },
+impl<T: fmt::Display> fmt::Display for OrDash<T> {
+    fn fmt<W: fmt::Write>(&self, f: &mut fmt::Formatter<W>) -> fmt::Result {
+        match &self.0 {
+            Some(value) => write!(f, "{value}"),
+            None => write!(f, "-"),
+        }
     }
 }
 
-// All nine fields.
-pub(crate) fn stamp_part(t: Timestamp) -> Part {
-    let framerate = t.framerate;
-    let r = rate(framerate);
-    Part {
-        form: STAMP,
-        value: [
-            t.hours as u64,
-            t.minutes as u64,
-            t.seconds as u64,
-            t.frames as u64,
-            t.samples as u64,
-            r.text,
-            r.n,
-            t.dropframe as u64,
-            t.reserved1 as u64,
-            t.reserved2 as u64,
-            0,
-            0,
-        ],
+// A timestamp, all nine fields.
+#[derive(Clone, Copy)]
+pub(crate) struct Stamp(pub Timestamp);
+
+impl fmt::Display for Stamp {
+    fn fmt<W: fmt::Write>(&self, f: &mut fmt::Formatter<W>) -> fmt::Result {
+        let t = self.0;
+        write!(
+            f,
+            "{}:{}:{}:{} samples {} rate {} drop {} reserved {} {}",
+            t.hours,
+            t.minutes,
+            t.seconds,
+            t.frames,
+            t.samples,
+            Rate(t.framerate),
+            u8::from(t.dropframe),
+            t.reserved1,
+            u8::from(t.reserved2)
+        )
     }
 }
 
-fn waiting_part(w: Waiting) -> Part {
-    match w {
-        Waiting::Nothing => made(NO_STAMP, 0, 0, 0),
-        Waiting::Stamp(t) => stamp_part(t),
+// A frame rate by its name.
+#[derive(Clone, Copy)]
+struct Rate(Framerate);
+
+impl fmt::Display for Rate {
+    fn fmt<W: fmt::Write>(&self, f: &mut fmt::Formatter<W>) -> fmt::Result {
+        match self.0 {
+            Framerate::R23_976 => write!(f, "23.976"),
+            Framerate::R24 => write!(f, "24"),
+            Framerate::R25 => write!(f, "25"),
+            Framerate::R29_97 => write!(f, "29.97"),
+            Framerate::R30 => write!(f, "30"),
+            Framerate::R50 => write!(f, "50"),
+            Framerate::R59_94 => write!(f, "59.94"),
+            Framerate::R60 => write!(f, "60"),
+            Framerate::Invalid(code) => write!(f, "invalid {code}"),
+        }
     }
 }
 
-fn unread(start: usize, end: usize) -> u64 {
-    if start <= end {
-        (end - start) as u64
-    } else {
-        0
-    }
-}
+// The record of a reader.
+#[derive(Clone, Copy)]
+pub(crate) struct ReaderRecord(pub Extractor);
 
-fn reader_part(r: Extractor) -> Part {
-    let s = r.stream;
-    Part {
-        form: READER,
-        value: [
+impl fmt::Display for ReaderRecord {
+    fn fmt<W: fmt::Write>(&self, f: &mut fmt::Formatter<W>) -> fmt::Result {
+        let r = self.0;
+        let s = r.stream;
+        write!(
+            f,
+            "| at {} {} {} substreams {} frames {} errors {} unanswered {} unread {} accepted {} waiting {}",
             s.consumed.0,
-            s.locked as u64,
-            s.seen as u64,
-            s.substreams as u64,
+            if s.locked { "locked" } else { "searching" },
+            if s.seen { "seen" } else { "unseen" },
+            s.substreams,
             s.frames,
             s.losses.errors,
-            r.unanswered as u64,
-            unread(r.start, r.end),
+            r.unanswered,
+            r.end.saturating_sub(r.start),
             r.accepted,
-            0,
-            0,
-            0,
-        ],
+            OrDash(s.waiting.map(Stamp))
+        )
     }
 }
 
-// What a call of the reader answers, before its record: a unit has a timestamp and the sum of its bytes.
+// What a request answers, over the buffer that was lent to it: of a unit, the sum of the bytes that its part of the buffer holds.
 #[derive(Clone, Copy)]
-pub(crate) struct Head {
-    pub answer: Part,
-    pub stamp: Part,
-    pub bytes: Part,
+pub(crate) struct Asked<'a> {
+    pub answer: Result<Answer, Refusal>,
+    pub lent: &'a [u8],
 }
 
-pub(crate) fn alone(answer: Part) -> Head {
-    Head {
-        answer,
-        stamp: nothing(),
-        bytes: nothing(),
+impl fmt::Display for Asked<'_> {
+    fn fmt<W: fmt::Write>(&self, f: &mut fmt::Formatter<W>) -> fmt::Result {
+        match self.answer {
+            Ok(Answer::Unit { unit, start }) => {
+                let bytes = buffer::part(self.lent, start, usize::from(unit.length));
+                write!(f, "{} bytes {}", Handed(unit), Adler32::of(bytes))
+            }
+            Ok(Answer::InvalidAccessUnitLength { actual, minimum }) => {
+                write!(f, "5 actual {actual} minimum {minimum}")
+            }
+            Ok(Answer::ParityCheckFailed) => write!(f, "6"),
+            Ok(Answer::InsufficientData) => write!(f, "7"),
+            Ok(Answer::Quiet) => write!(f, "8"),
+            Err(refusal) => write!(f, "{}", u8::from(refusal)),
+        }
     }
 }
 
-// An answer with the reader's record.
-pub(crate) fn reader_parts(h: Head, r: Extractor) -> [Part; 9] {
-    let s = r.stream;
-    let w = s.waiting;
-    let answer = h.answer;
-    let stamp = h.stamp;
-    let bytes = h.bytes;
-    let reader = reader_part(r);
-    let waiting = waiting_part(w);
-    let none = nothing();
-    [
-        answer, stamp, bytes, reader, waiting, none, none, none, none,
-    ]
-}
+// A unit, with its timestamp.
+#[derive(Clone, Copy)]
+struct Handed(Unit);
 
-fn push_number(a: PushAnswer) -> u64 {
-    match a {
-        PushAnswer::Accepted => 0,
-        PushAnswer::Record => 1,
-        PushAnswer::Pushes => 2,
-        PushAnswer::Total => 3,
-        PushAnswer::Room => 4,
-    }
-}
-
-pub(crate) fn pushed_head(a: PushAnswer) -> Head {
-    alone(made(PUSH, push_number(a), 0, 0))
-}
-
-fn unit_part(u: Unit) -> Part {
-    Part {
-        form: UNIT,
-        value: [
+impl fmt::Display for Handed {
+    fn fmt<W: fmt::Write>(&self, f: &mut fmt::Formatter<W>) -> fmt::Result {
+        let u = self.0;
+        write!(
+            f,
+            "unit {} at {} length {} {} substreams {} {}",
             u.index,
             u.position.0,
-            u.length as u64,
-            u.major as u64,
-            u.substreams as u64,
-            0,
-            0,
-            0,
-            0,
-            0,
-            0,
-            0,
-        ],
+            u.length,
+            if u.major { "major" } else { "minor" },
+            u.substreams,
+            OrDash(u.waiting.map(Stamp))
+        )
     }
 }
 
-// A unit, with the sum of the bytes that its part of the lent buffer holds.
-fn unit_head(u: Unit, bytes: &[u8]) -> Head {
-    let w = u.waiting;
-    Head {
-        answer: unit_part(u),
-        stamp: waiting_part(w),
-        bytes: made(BYTES, adler(bytes), 0, 0),
+// The record of start timing.
+#[derive(Clone, Copy)]
+pub(crate) struct TimingRecord(pub HiresOutputTimingState);
+
+impl fmt::Display for TimingRecord {
+    fn fmt<W: fmt::Write>(&self, f: &mut fmt::Formatter<W>) -> fmt::Result {
+        let r = self.0;
+        write!(
+            f,
+            "| state {} counter {} bits {} field {} {} {} previous {} {} {} fault {}",
+            r.state,
+            r.counter,
+            r.bits,
+            r.field.timing,
+            r.field.unit,
+            r.field.output,
+            r.previous.timing,
+            r.previous.unit,
+            r.previous.output,
+            OrDash(r.fault.map(Fault))
+        )
     }
 }
 
-// What a request answers, over the buffer that was lent to it.
-pub(crate) fn asked_head(a: Answer, lent: &[u8]) -> Head {
-    match a {
-        Answer::Unit { unit, start } => {
-            unit_head(unit, buffer::part(lent, start, unit.length as usize))
+// A fault, in the words that both sides of a comparison write.
+#[derive(Clone, Copy)]
+struct Fault(HiresTimingFault);
+
+impl fmt::Display for Fault {
+    fn fmt<W: fmt::Write>(&self, f: &mut fmt::Formatter<W>) -> fmt::Result {
+        match self.0 {
+            HiresTimingFault::ExtraZeroAfterEnd(unit) => {
+                write!(f, "extra 0 after the data field end {unit}")
+            }
+            HiresTimingFault::ExtraZeroInField(unit) => {
+                write!(f, "extra 0 in the datafield {unit}")
+            }
+            HiresTimingFault::InvalidZeroInField(unit) => {
+                write!(f, "invalid 0 in the datafield {unit}")
+            }
+            HiresTimingFault::Sequence {
+                timing,
+                unit,
+                prev_timing,
+                prev_unit,
+            } => write!(f, "sequence {timing} {unit} {prev_timing} {prev_unit}"),
         }
-        Answer::InvalidAccessUnitLength { actual, minimum } => {
-            alone(made(LENGTH, actual as u64, minimum as u64, 0))
+    }
+}
+
+// All of a window but its rings, behind the units held: none where the record doesn't fit.
+#[derive(Clone, Copy)]
+pub(crate) struct WindowRecord(pub Levels);
+
+impl fmt::Display for WindowRecord {
+    fn fmt<W: fmt::Write>(&self, f: &mut fmt::Formatter<W>) -> fmt::Result {
+        let levels = self.0;
+        let held = levels.buffered().unwrap_or(0);
+        write!(
+            f,
+            "held {held} | read {} write {}",
+            levels.read, levels.write
+        )?;
+        write!(f, " depths")?;
+        for depth in levels.depth {
+            write!(f, " {}", Accumulator(depth))?;
         }
-        Answer::ParityCheckFailed => alone(made(NEXT, 6, 0, 0)),
-        Answer::InsufficientData => alone(made(NEXT, 7, 0, 0)),
-        Answer::Quiet => alone(made(NEXT, 8, 0, 0)),
-        Answer::Record => alone(made(NEXT, 1, 0, 0)),
-    }
-}
-
-// What a timing call answers.
-pub(crate) fn timed_part(a: timing::Answer) -> Part {
-    match a {
-        timing::Answer::Nothing => made(TIMING, 0, 0, 0),
-        timing::Answer::Start(n) => made(TIMING, 0, 1, n as u64),
-        timing::Answer::Record => made(TIMING, 1, 0, 0),
-    }
-}
-
-fn state_part(t: HiresOutputTimingState) -> Part {
-    let f = t.field;
-    Part {
-        form: STATE,
-        value: [
-            t.state as u64,
-            t.counter as u64,
-            t.bits as u64,
-            f.timing,
-            f.unit,
-            f.output,
-            0,
-            0,
-            0,
-            0,
-            0,
-            0,
-        ],
-    }
-}
-
-// Which fault, and the numbers of each.
-fn fault_values(f: HiresTimingFault) -> [u64; 8] {
-    match f {
-        HiresTimingFault::NoFault => [0, 0, 0, 0, 0, 0, 0, 0],
-        HiresTimingFault::ExtraZeroAfterEnd(u) => [1, u, 0, 0, 0, 0, 0, 0],
-        HiresTimingFault::ExtraZeroInField(u) => [2, 0, u, 0, 0, 0, 0, 0],
-        HiresTimingFault::InvalidZeroInField(u) => [3, 0, 0, u, 0, 0, 0, 0],
-        HiresTimingFault::Sequence {
-            timing,
-            unit,
-            prev_timing,
-            prev_unit,
-        } => [4, 0, 0, 0, timing, unit, prev_timing, prev_unit],
-    }
-}
-
-fn previous_part(t: HiresOutputTimingState) -> Part {
-    let p = t.previous;
-    let fault = t.fault;
-    let f = fault_values(fault);
-    Part {
-        form: PREVIOUS,
-        value: [
-            p.timing, p.unit, p.output, f[0], f[1], f[2], f[3], f[4], f[5], f[6], f[7], 0,
-        ],
-    }
-}
-
-// An answer with the timing record.
-pub(crate) fn timing_parts(answer: Part, t: HiresOutputTimingState) -> [Part; 9] {
-    let state = state_part(t);
-    let previous = previous_part(t);
-    let none = nothing();
-    [answer, state, previous, none, none, none, none, none, none]
-}
-
-pub(crate) fn window_part(a: levels::Answer) -> Part {
-    match a {
-        levels::Answer::Accepted => made(WINDOW, 0, 0, 0),
-        levels::Answer::RecordDoesNotFit => made(WINDOW, 1, 0, 0),
-        levels::Answer::ContributionTooLarge => made(WINDOW, 12, 0, 0),
-        levels::Answer::DepthTooLarge => made(WINDOW, 13, 0, 0),
-    }
-}
-
-fn underrun(u: Underrun) -> Choice {
-    match u {
-        Underrun::Nothing => Choice { text: 0, n: 0 },
-        Underrun::At(k) => Choice {
-            text: 1,
-            n: k as u64,
-        },
-    }
-}
-
-// The underrun and the depths that a step reports.
-pub(crate) fn report_part(u: Underrun, d: [u64; 5]) -> Part {
-    let k = underrun(u);
-    Part {
-        form: REPORT,
-        value: [k.text, k.n, d[0], d[1], d[2], d[3], d[4], 0, 0, 0, 0, 0],
+        write!(f, " substreams")?;
+        for substream in levels.substream {
+            write!(f, " {}/{}", substream.bytes, substream.peak)?;
+        }
+        Ok(())
     }
 }
 
 // One accumulator: total and stream part, and the three parts of its peak.
-fn depth_part(d: Depth) -> Part {
-    let p = d.peak;
-    Part {
-        form: DEPTH,
-        value: [
-            d.total, d.stream, p.total, p.stream, p.overhead, 0, 0, 0, 0, 0, 0, 0,
-        ],
+#[derive(Clone, Copy)]
+struct Accumulator(Depth);
+
+impl fmt::Display for Accumulator {
+    fn fmt<W: fmt::Write>(&self, f: &mut fmt::Formatter<W>) -> fmt::Result {
+        let depth = self.0;
+        let peak = depth.peak;
+        write!(
+            f,
+            "{}:{}/{}:{}:{}",
+            depth.total, depth.stream, peak.total, peak.stream, peak.overhead
+        )
     }
 }
 
-fn substreams_part(s: [SubstreamDepth; 4]) -> Part {
-    let a = s[0];
-    let b = s[1];
-    let c = s[2];
-    let d = s[3];
-    Part {
-        form: SUBSTREAMS,
-        value: [
-            a.bytes, a.peak, b.bytes, b.peak, c.bytes, c.peak, d.bytes, d.peak, 0, 0, 0, 0,
-        ],
-    }
-}
+// A byte cap, or why there is none.
+#[derive(Clone, Copy)]
+pub(crate) struct CapText(pub Cap);
 
-// An answer with all of a window but its rings, and the units held.
-pub(crate) fn window_parts(answer: Part, report: Part, held: usize, l: Levels) -> [Part; 9] {
-    let d = l.depth;
-    let s = l.substream;
-    let slots = made(SLOTS, held as u64, l.read as u64, l.write as u64);
-    let d0 = depth_part(d[0]);
-    let d1 = depth_part(d[1]);
-    let d2 = depth_part(d[2]);
-    let d3 = depth_part(d[3]);
-    let d4 = depth_part(d[4]);
-    let substreams = substreams_part(s);
-    [answer, report, slots, d0, d1, d2, d3, d4, substreams]
+impl fmt::Display for CapText {
+    fn fmt<W: fmt::Write>(&self, f: &mut fmt::Formatter<W>) -> fmt::Result {
+        match self.0 {
+            Cap::Bytes(n) => write!(f, "{n}"),
+            Cap::Unchecked => write!(f, "unchecked"),
+            Cap::NoSuchAccumulator => write!(f, "none"),
+        }
+    }
 }

@@ -1,21 +1,32 @@
 // A unit's bytes are shown by their Adler-32 sum: a page of digits for each unit would tell a reader no more.
 ghost use Rattle.std.specs.Prelude.{◌<◌};
 
-// The sum of the bytes.
-pub(crate) fn adler(bytes: &[u8]) -> u64 {
-    let mut low: u64 = 1;
-    let mut high: u64 = 0;
-    let mut i = 0;
-    while i < bytes.len() {
-        low = (low % 65521 + wide(bytes[i])) % 65521;
-        high = (high % 65521 + low) % 65521;
-        i += 1;
-    }
-    high % 65521 * 65536 + low % 65521
+use std::fmt;
+
+// The sum of the bytes so far.
+#[derive(Clone, Copy)]
+pub(crate) struct Adler32 {
+    low: u32,
+    high: u32,
+    ghost low_reduced: { low < 65521 },
+    ghost high_reduced: { high < 65521 },
 }
 
-fn wide(b: u8) -> u64
-    ensures { result < 256 }
-{
-    b as u64
+impl Adler32 {
+    pub(crate) fn of(bytes: &[u8]) -> Adler32 {
+        let nothing = Adler32 { low: 1, high: 0 };
+        bytes.iter().fold(nothing, |sum, byte| sum.with(*byte))
+    }
+
+    fn with(self, byte: u8) -> Adler32 {
+        let low = (self.low + u32::from(byte)) % 65521;
+        let high = (self.high + low) % 65521;
+        Adler32 { low, high }
+    }
+}
+
+impl fmt::Display for Adler32 {
+    fn fmt<W: fmt::Write>(&self, f: &mut fmt::Formatter<W>) -> fmt::Result {
+        write!(f, "{:04x}{:04x}", self.high, self.low)
+    }
 }

@@ -1,109 +1,62 @@
-// The words behind a call's name, as names, numbers and bytes.
-use text::Number;
+// The words of a line, parted by spaces, and what they write: numbers, bytes, the settings of a check.
+ghost use Rattle.std.specs.Prelude.{length};
+ghost use Rattle.std.specs.Iterator.{at_most};
 
-// Which of a list of names the next word is, and the place behind it.
-#[derive(Clone, Copy)]
-pub(crate) struct Name {
-    pub number: usize,
-    pub to: usize,
+use arrayvec::ArrayVec;
+use crc::Algorithm;
+
+// The numbers behind a call's name: no call takes more.
+pub(crate) type Numbers = ArrayVec<u64, 16>;
+
+// What is left of a line.
+#[derive(Clone, Copy, Debug, PartialEq, Eq)]
+pub(crate) struct Words<'a>(pub &'a [u8]);
+
+impl<'a> Iterator for Words<'a> {
+    type Item = &'a [u8];
+
+    ghost remaining = { λ words. at_most (length words.0.now) };
+
+    fn next(&mut self) -> Option<&'a [u8]> {
+        let line = self.0;
+        let at = text::next_word(line, 0, line.len());
+        self.0 = &line[at.end..];
+        if at.is_empty() { None } else { Some(&line[at]) }
+    }
 }
 
-// What stands behind a call's name: up to sixteen numbers, how many, and the place behind them. Good where no other word follows.
-#[derive(Clone, Copy)]
-pub(crate) struct Numbers {
-    pub good: bool,
-    pub count: usize,
-    pub to: usize,
-    pub value: [u64; 16],
-}
+impl Words<'_> {
+    // The number that the next word writes.
+    fn number(&mut self) -> Option<u64> {
+        text::hex_number(self.next()?)
+    }
 
-// The number of a word in a list of fewer than sixteen names, parted by spaces. A word that is no name has a number past the last name's.
-fn number_among(names: &[u8], word: &[u8]) -> usize {
-    let mut at: usize = 0;
-    let mut k: usize = 0;
-    while k < 16 {
-        let w = text::next_word(names, at, names.len());
-        let begin = w.from;
-        at = w.to;
-        if check::same(&names[begin..at], word) {
-            return k;
+    // The numbers up to the line's end.
+    pub(crate) fn numbers(self) -> Option<Numbers> {
+        let mut numbers = Numbers::new();
+        for word in self {
+            numbers.try_push(text::hex_number(word)?).ok()?;
         }
-        k += 1;
+        Some(numbers)
     }
-    k
-}
 
-pub(crate) fn named(line: &[u8], from: usize, names: &[u8]) -> Name {
-    let w = text::next_word(line, from, line.len());
-    let begin = w.from;
-    let to = w.to;
-    Name {
-        number: number_among(names, &line[begin..to]),
-        to,
+    // The bytes that the next word writes, put into a lent slice; none where the line has ended. What stands behind them is passed over.
+    pub(crate) fn bytes<'b>(&mut self, room: &'b mut [u8]) -> Option<&'b [u8]> {
+        let n = text::hex_bytes(self.next().unwrap_or(b""), room)?;
+        Some(&room[..n])
     }
-}
 
-fn number(line: &[u8], from: usize, to: usize) -> Number {
-    if from <= to {
-        if to <= line.len() {
-            return text::hex_number(&line[from..to]);
-        }
-    }
-    Number::Bad
-}
-
-fn ended(line: &[u8], at: usize) -> bool {
-    let rest = text::next_word(line, at, line.len());
-    rest.from == rest.to
-}
-
-// The numbers from a place on, as far as there are words that are numbers, and no more than `most` or sixteen.
-pub(crate) fn numbers_from(line: &[u8], from: usize, most: usize) -> Numbers {
-    let mut value = [0u64; 16];
-    let mut at = from;
-    let mut count: usize = 0;
-    while count < 16 {
-        if count == most {
-            break;
-        }
-        let w = text::next_word(line, at, line.len());
-        let Number::Is(n) = number(line, w.from, w.to) else {
-            break;
-        };
-        value[count] = n;
-        at = w.to;
-        count += 1;
-    }
-    Numbers {
-        good: ended(line, at),
-        count,
-        to: at,
-        value,
+    // `POLY INIT ZEROS`
+    pub(crate) fn settings(&mut self) -> Option<Algorithm> {
+        Some(settings(self.number()?, self.number()?, self.number()?))
     }
 }
 
-// The bytes of the next word, put at a place of the output's room and behind, and how many they are.
-pub(crate) fn bytes_behind(line: &[u8], from: usize, out: &mut [u8], behind: usize) -> text::Hex {
-    let w = text::next_word(line, from, line.len());
-    let begin = w.from;
-    let end = w.to;
-    if out.len() < behind {
-        return text::Hex {
-            good: false,
-            count: 0,
-        };
+// The settings of a check, of which the first two have sixteen bits.
+pub(crate) fn settings(poly: u64, init: u64, zeros: u64) -> Algorithm {
+    Algorithm {
+        poly: (poly & 0xffff) as u16,
+        init: (init & 0xffff) as u16,
+        zeros: zeros != 0,
     }
-    text::hex_bytes(&line[begin..end], &mut out[behind..])
-}
-
-pub(crate) fn low16(n: u64) -> u16 {
-    (n % 65536) as u16
-}
-
-pub(crate) fn low32(n: u64) -> u32 {
-    (n % 4294967296) as u32
-}
-
-pub(crate) fn low8(n: u64) -> u8 {
-    (n % 256) as u8
 }

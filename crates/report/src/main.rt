@@ -3,242 +3,129 @@
 // error, and then there is no END line.
 #![tactic(auto)]
 
-ghost use Rattle.std.specs.Prelude.{◌≡◌, ◌≤◌, length};
+ghost use Rattle.std.specs.Prelude.{◌≤◌, IfSome};
 
+mod complaint;
+
+use crate::complaint::{Complaint, Cut};
 use crc::Algorithm;
-use extract::{Extractor, Opened};
-use reporting::Reported;
+use extract::{Extractor, Refusal};
 use std::env::FillError;
 use std::fs::File;
-use std::io::{Error, Read};
+use std::io::{Read, Stdout};
 use std::rt::Env;
-use text::Number;
 
-const STDOUT: i32 = 1;
-
-const STDERR: i32 = 2;
+// The piece where no size is given.
+const USUAL: usize = 65536;
 
 // The lent buffer is as long as a reader takes; a piece and the 8,189 bytes that a dry reader may hold fit in it.
-const MOST: u64 = 1040000;
+const MOST: usize = 1040000;
 
-// What became of a piece.
-#[derive(Clone, Copy)]
-enum Taken {
-    On(Extractor),
-    Over(Extractor),
-    Failed,
-}
-
-fn complain(s: &[u8]) {
-    io::write_all(STDERR, s);
-}
-
-fn complain_of(before: &[u8], name: &[u8], after: &[u8]) {
-    complain(before);
-    complain(name);
-    complain(after);
-}
-
-// Says why a call of the system failed on a file.
-fn complain_of_file(rt: &HostRuntime, doing: &[u8], name: &[u8], advice: &[u8], error: Error) {
-    complain_of(b"report: cannot ", doing, b" '");
-    complain_of(name, advice, b": ");
-    // Where standard error takes no words there is nobody to tell.
-    match rt.eprintln(error) {
-        Ok(()) => {}
-        Err(_) => {}
-    }
-}
-
-// Says why the report of a file ended early.
-fn complain_of_report(name: &[u8], reported: Reported) {
-    match reported {
-        Reported::Unwritten => complain(
-            b"report: cannot write to standard output; give it a place with room\n",
-        ),
-        Reported::Refused(number) => {
-            complain_of(
-                b"report: '",
-                name,
-                b"': the reader refused a piece by number ",
-            );
-            io::print_decimal(STDERR, number as u64);
-            complain(b"; cut the stream below 2^48 bytes\n");
-        }
-        Reported::Went(_) => {}
-    }
-}
-
-// Reads a piece, and writes its lines.
-fn take_piece<R: Read>(
-    rt: &HostRuntime,
-    source: &mut R,
-    name: &[u8],
+// A reader over a lent buffer, and where its lines go.
+#[derive(Drop)]
+struct Desk<'a> {
     reader: Extractor,
-    buf: &mut [u8],
-    piece: &mut [u8],
-    out: &mut [u8; 65536],
-) -> Taken {
-    let n = match source.read(piece) {
-        Ok(n) => n,
-        Err(e) => {
-            complain_of_file(
-                rt,
-                b"read",
-                name,
-                b"'; name a file or a pipe that can be read",
-                e,
-            );
-            return Taken::Failed;
-        }
-    };
-    if n == 0 {
-        return Taken::Over(reader);
-    }
-    let reported = reporting::report_piece(reader, buf, &piece[..n], out, STDOUT);
-    let Reported::Went(next) = reported else {
-        complain_of_report(name, reported);
-        return Taken::Failed;
-    };
-    Taken::On(next)
+    buf: &'a mut [u8],
+    out: [u8; 65536],
+    lines: Stdout,
 }
 
-// Nothing says that a file ends, so the turns are counted down from a number that no run uses up.
-fn take_all<R: Read>(
-    rt: &HostRuntime,
-    source: &mut R,
-    name: &[u8],
-    reader: Extractor,
-    buf: &mut [u8],
-    piece: &mut [u8],
-    out: &mut [u8; 65536],
-) {
-    let mut reader = reader;
-    let mut left = u64::MAX;
-    while left > 0 {
-        match take_piece(rt, source, name, reader, buf, piece, out) {
-            Taken::On(next) => {
-                reader = next;
-            }
-            Taken::Over(last) => {
-                let reported = reporting::report_end(last, out, STDOUT);
-                complain_of_report(name, reported);
-                return;
-            }
-            Taken::Failed => {
-                return;
+impl<'a> Desk<'a> {
+    // A new reader.
+    fn open(buf: &'a mut [u8], lines: Stdout) -> Result<Desk<'a>, Refusal> {
+        let reader = Extractor::open(buf, Algorithm::major_sync_info())?;
+        Ok(Desk {
+            reader,
+            buf,
+            out: [0; 65536],
+            lines,
+        })
+    }
+
+    // Reads a piece, and writes its lines; false where the file has ended.
+    fn take_piece<R: Read>(&mut self, source: &mut R, piece: &mut [u8]) -> Result<bool, Cut> {
+        let n = source.read(piece)?;
+        if n == 0 {
+            return Ok(false);
+        }
+        self.reader = reporting::report_piece(
+            self.reader,
+            self.buf,
+            &piece[..n],
+            &mut self.out,
+            &mut self.lines,
+        )?;
+        Ok(true)
+    }
+
+    // Takes all that there is to read, and writes the last line. Nothing says that a file ends, so the turns are counted up to a number that
+    // no run reaches.
+    fn take_all<R: Read>(&mut self, source: &mut R, piece: &mut [u8]) -> Result<(), Cut> {
+        for _ in 0..u64::MAX {
+            if !self.take_piece(source, piece)? {
+                reporting::report_end(self.reader, &mut self.out, &mut self.lines)?;
+                break;
             }
         }
-        left -= 1;
+        Ok(())
     }
 }
 
-// The longest buffer that a reader takes.
-fn lent_buffer() -> [u8; 1048576]
-    ensures { 1048576 ≡ length result }
-{
-    [0; 1048576]
+// So many zeros. The longest buffer that a reader takes is 1,048,576 bytes.
+fn zeros<const N: usize>() -> [u8; N] {
+    [0; N]
 }
 
 // The report of an open file, in pieces of a size.
-fn report<R: Read>(rt: &HostRuntime, source: &mut R, name: &[u8], size: usize)
+fn report<R: Read>(source: &mut R, size: usize, lines: Stdout) -> Result<(), Cut>
     requires { size ≤ 1048576 }
 {
-    let mut buf = lent_buffer();
-    let mut piece = lent_buffer();
-    let mut out = io::large_buffer();
-    match Extractor::open(&buf, Algorithm::major_sync_info()) {
-        Opened::Open(reader) => {
-            take_all(
-                rt,
-                source,
+    let mut buf = zeros::<1048576>();
+    let mut piece = zeros::<1048576>();
+    let mut desk = Desk::open(&mut buf, lines)?;
+    desk.take_all(source, &mut piece[..size])
+}
+
+// The size that a word gives.
+fn size_of(word: &[u8]) -> Option<usize>
+    ensures { IfSome result (λ size. size ≤ 1048576) }
+{
+    let size = text::decimal_number(word)? as usize;
+    (1..=MOST).contains(&size).then_some(size)
+}
+
+// The report that the arguments ask for; `name` and `word` are room for two of them. A name is bytes to the system, and text to what opens it
+// here: a file whose name is no UTF-8 text goes in through standard input.
+fn run<'a>(rt: &HostRuntime, name: &'a mut [u8], word: &'a mut [u8]) -> Result<(), Complaint<'a>> {
+    if !matches!(rt.arg(3, &mut [0; 1]), Err(FillError::NotPresent)) {
+        return Err(Complaint::TooManyWords);
+    }
+    let name = match rt.arg(1, name) {
+        Ok(n) => &name[..n],
+        Err(FillError::TooLong) => return Err(Complaint::LongName),
+        Err(FillError::NotPresent) => {
+            let name = "standard input";
+            return report(&mut rt.stdin(), USUAL, rt.stdout()).map_err(|cut| Complaint::Ended {
                 name,
-                reader,
-                &mut buf,
-                &mut piece[..size],
-                &mut out,
-            )
+                cut,
+            });
         }
-        Opened::Refused => complain(b"report: the reader refused its buffer\n"),
-    }
-}
-
-// The report of a file by its name. A name is bytes to the system, and text to what opens it here: a file whose name is no UTF-8 text goes in
-// through standard input.
-fn report_file(rt: &HostRuntime, name: &[u8], size: usize)
-    requires { size ≤ 1048576 }
-{
-    let Ok(path) = str::from_utf8(name) else {
-        complain_of(
-            b"report: cannot open '",
-            name,
-            b"'; name a file that can be read: the name is no UTF-8 text\n",
-        );
-        return;
     };
-    match File::open(rt, path) {
-        Ok(mut file) => report(rt, &mut file, name, size),
-        Err(e) => complain_of_file(rt, b"open", name, b"'; name a file that can be read", e),
-    }
-}
-
-// The size that a word gives; 0 where it gives none.
-fn size_of(word: &[u8]) -> usize
-    ensures { result ≤ 1048576 }
-{
-    match text::decimal_number(word) {
-        Number::Is(n) => { if n <= MOST { n as usize } else { 0 } }
-        Number::Bad => 0,
-    }
-}
-
-// The report of a file, in pieces of the size that the second argument gives.
-fn report_in_pieces(rt: &HostRuntime, name: &[u8], word: &[u8]) {
-    let size = size_of(word);
-    if size == 0 {
-        complain_of(
-            b"report: '",
-            word,
-            b"' is no PIECE: give a number from 1 to 1040000\n",
-        );
-        return;
-    }
-    report_file(rt, name, size);
-}
-
-// Is there an argument of this number?
-fn is_given(rt: &HostRuntime, i: usize) -> bool {
-    match rt.arg(i, &mut [0; 1]) {
-        Ok(_) => true,
-        Err(FillError::TooLong) => true,
-        Err(FillError::NotPresent) => false,
-    }
-}
-
-// The report of a file that is named, in pieces of the size that is given.
-fn report_named(rt: &HostRuntime, name: &[u8]) {
-    let mut word = io::buffer();
-    match rt.arg(2, &mut word) {
-        Ok(n) => report_in_pieces(rt, name, &word[..n]),
-        Err(FillError::TooLong) => report_in_pieces(rt, name, b""),
-        Err(FillError::NotPresent) => report_file(rt, name, 65536),
-    }
+    let size = match rt.arg(2, word) {
+        Ok(n) => size_of(&word[..n]).ok_or(Complaint::NoPiece(&word[..n]))?,
+        Err(FillError::TooLong) => return Err(Complaint::NoPiece(b"")),
+        Err(FillError::NotPresent) => USUAL,
+    };
+    let name = str::from_utf8(name).map_err(|_| Complaint::NoText(name))?;
+    let mut file = File::open(rt, name).map_err(|error| Complaint::Unopened { name, error })?;
+    report(&mut file, size, rt.stdout()).map_err(|cut| Complaint::Ended { name, cut })
 }
 
 fn main(rt: HostRuntime) {
-    if is_given(&rt, 3) {
-        complain(b"report: too many words: report [FILE [PIECE]]\n");
-        return;
-    }
-    let mut path = io::buffer();
-    match rt.arg(1, &mut path) {
-        Ok(n) => report_named(&rt, &path[..n]),
-        Err(FillError::TooLong) => {
-            complain(b"report: the file's name; give a shorter one: File name too long\n")
-        }
-        Err(FillError::NotPresent) => {
-            let mut input = rt.stdin();
-            report(&rt, &mut input, b"standard input", 65536);
-        }
+    let mut name = zeros::<4096>();
+    let mut word = zeros::<4096>();
+    if let Err(complaint) = run(&rt, &mut name, &mut word) {
+        // Where standard error takes no words there is nobody to tell.
+        let _ = complaint.tell(&mut rt.stderr());
     }
 }

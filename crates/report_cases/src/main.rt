@@ -2,106 +2,66 @@
 #![tactic(auto)]
 
 use crc::Algorithm;
-use extract::{Extractor, Opened};
-use reporting::Reported;
+use example_data::{EXAMPLE_DATA, EXAMPLE_DATA_FBB, EXAMPLE_DATA_FBB_UNEXTRACTABLE};
+use extract::Extractor;
+use reporting::Failure;
+use standard_output::Output;
+use std::array;
+use std::fmt::{Display, Write};
 
-const STDOUT: i32 = 1;
-
-fn say(s: &[u8]) {
-    io::write_all(STDOUT, s);
+// Says a line. Where standard output takes none there is nobody to tell.
+fn say<L: Display + Drop>(line: L) {
+    let _ = writeln!(Output, "{line}");
 }
 
-// The report of bytes in pieces of a size, by a new reader.
-fn report(bytes: &[u8], size: usize) {
+// The report of bytes in pieces of a size, by a new reader, under a heading.
+fn report<H: Display + Drop>(heading: H, bytes: &[u8], size: usize) {
+    say(format_args!("# {heading}"));
     let mut buf = io::large_buffer();
-    let mut out = io::large_buffer();
-    let Opened::Open(reader) = Extractor::open(&buf, Algorithm::major_sync_info()) else {
-        say(b"the reader refused its buffer\n");
-        return;
+    let mut out = [0; 65536];
+    let Ok(reader) = Extractor::open(&buf, Algorithm::major_sync_info()) else {
+        return say("the reader refused its buffer");
     };
-    let reported = reporting::report_bytes(reader, &mut buf, bytes, size, &mut out, STDOUT);
-    if let Reported::Refused(number) = reported {
-        say(b"refused by number ");
-        io::print_decimal(STDOUT, number as u64);
-        say(b"\n");
+    let reported = reporting::report_bytes(reader, &mut buf, bytes, size, &mut out, &mut Output);
+    if let Err(Failure::Refused(refusal)) = reported {
+        say(format_args!("refused by number {}", u8::from(refusal)));
     }
 }
 
-fn in_pieces(bytes: &[u8], size: usize) {
-    say(b"# EXAMPLE_DATA in pieces of ");
-    io::print_decimal(STDOUT, size as u64);
-    say(b"\n");
-    report(bytes, size);
-}
-
-// The example with one byte changed.
-fn report_damaged(heading: &[u8], at: usize, value: u8) {
-    let mut bytes = example_data::EXAMPLE_DATA;
-    if at < 120 {
-        bytes[at] = value;
-    }
-    say(heading);
-    report_example(&bytes);
-}
-
-fn report_example(bytes: &[u8; 120]) {
-    report(bytes, 120);
-}
-
-// The example at the front.
-fn example_first(bytes: &mut [u8; 60120]) {
-    let example = example_data::EXAMPLE_DATA;
-    let mut i: usize = 0;
-    while i < 120 {
-        bytes[i] = example[i];
-        i += 1;
-    }
-}
-
-// Behind the example its last unit again, to the end.
-fn repeat_last(bytes: &mut [u8; 60120]) {
-    let mut i: usize = 120;
-    while i < 60120 {
-        bytes[i] = bytes[i - 20];
-        i += 1;
-    }
-}
-
-// The example and three thousand units more in one piece: their lines are more than the room for lines, and none is lost.
-fn report_long() {
-    let mut bytes = [0; 60120];
-    example_first(&mut bytes);
-    repeat_last(&mut bytes);
-    say(b"# EXAMPLE_DATA and 3000 units more, whole\n");
-    report_whole(&bytes);
-}
-
-fn report_whole(bytes: &[u8; 60120]) {
-    report(bytes, 60120);
+// The example and its last unit three thousand times more: in one piece its lines are more than the room for lines, and none is lost.
+fn long_example() -> [u8; 60120] {
+    array::from_fn(|i| EXAMPLE_DATA[if i < 120 { i } else { 100 + i % 20 }])
 }
 
 fn main() {
-    let example = example_data::EXAMPLE_DATA;
-    say(b"# EXAMPLE_DATA whole\n");
-    report(&example, 120);
-    in_pieces(&example, 1);
-    in_pieces(&example, 7);
-    in_pieces(&example, 23);
-    in_pieces(&example, 24);
-    in_pieces(&example, 64);
-    let fbb = example_data::EXAMPLE_DATA_FBB;
-    say(b"# EXAMPLE_DATA_FBB whole\n");
-    report(&fbb, 482);
-    let unextractable = example_data::EXAMPLE_DATA_FBB_UNEXTRACTABLE;
-    say(b"# EXAMPLE_DATA_FBB_UNEXTRACTABLE whole\n");
-    report(&unextractable, 150);
-    report_damaged(
-        b"# EXAMPLE_DATA with another byte in its sync: number 6\n",
-        24,
-        1,
+    report("EXAMPLE_DATA whole", &EXAMPLE_DATA, 120);
+    for size in [1, 7, 23, 24, 64] {
+        report(
+            format_args!("EXAMPLE_DATA in pieces of {size}"),
+            &EXAMPLE_DATA,
+            size,
+        );
+    }
+    report("EXAMPLE_DATA_FBB whole", &EXAMPLE_DATA_FBB, 482);
+    report(
+        "EXAMPLE_DATA_FBB_UNEXTRACTABLE whole",
+        &EXAMPLE_DATA_FBB_UNEXTRACTABLE,
+        150,
     );
-    report_damaged(b"# EXAMPLE_DATA with length 0: number 5\n", 17, 0);
-    say(b"# no bytes\n");
-    report(b"", 1);
-    report_long();
+    let mut damaged = EXAMPLE_DATA;
+    damaged[24] = 1;
+    report(
+        "EXAMPLE_DATA with another byte in its sync: number 6",
+        &damaged,
+        120,
+    );
+    let mut damaged = EXAMPLE_DATA;
+    damaged[17] = 0;
+    report("EXAMPLE_DATA with length 0: number 5", &damaged, 120);
+    report("no bytes", b"", 1);
+    report(
+        "EXAMPLE_DATA and 3000 units more, whole",
+        &long_example(),
+        60120,
+    );
 }

@@ -1,5 +1,5 @@
 -- What a reader carries through every request: the check's setting, and as a waiting timestamp only what a parse gave.
-use Rattle.std.specs.Prelude.{◌≡◌, List, [], ℕ, ◌-◌, length, take, drop}
+use Rattle.std.specs.Prelude.{◌≡◌, List, [], ℕ, ◌-◌, length, take, drop, Ok, Some}
 use Rattle.std.proofs.Math.Path.{refl}
 use Rattle.machine.specs.Ask.{Eat, goal}
 use Rattle.machine.specs.Always.{AfterStep, AfterRequest}
@@ -7,23 +7,21 @@ use Rattle.machine.proofs.AlwaysLaws.{after_map, request_always}
 use Rattle.machine.specs.Scan.{request}
 use Rattle.crc.specs.declared.Algorithm.{Algorithm}
 use Rattle.timestamp.specs.declared.Timestamp.{Timestamp}
-use Rattle.timestamp.specs.declared.Parsed.TheVariants.{Stamp as Parses}
 use Rattle.timestamp.specs.Timestamp.{parse_of}
 use Rattle.rules.specs.Search.{kept, keep}
 use Rattle.rules.specs.Request.{act, arrive, reader}
 use Rattle.rules.proofs.RulesLaws.{reader_laws}
 use Rattle.rules.proofs.StepLaws.{step, verdict_step, step_shows, moved_shows}
 use Rattle.rules.proofs.StampLaws.{nothing_waits, kept_tells, stamp_at_tells}
-use Rattle.rules.specs.declared.Waiting.TheVariants.{Stamp as Waits}
 use Rattle.rules.specs.declared.Stream.{Stream}
 use Rattle.rules.specs.declared.Verdict.{Verdict}
 use Rattle.rules.specs.declared.Verdict.TheVariants.{Lock, Lost, Short, Failed, Whole}
 
 -- P of every timestamp that a parse gives; then P of every one that waits.
-module _ (P : Timestamp → Type 0) (parses : (bs : List ℕ) (t : Timestamp) → parse_of bs ≡ Parses t → P t) (c : Algorithm) where
+module _ (P : Timestamp → Type 0) (parses : (bs : List ℕ) (t : Timestamp) → parse_of bs ≡ Ok t → P t) (c : Algorithm) where
   pub record Carried (s : Stream) : Type 0 where
     pub check : s.check ≡ c
-    pub waits : (t : Timestamp) → s.waiting ≡ Waits t → P t
+    pub waits : (t : Timestamp) → s.waiting ≡ Some t → P t
 
   -- n bytes consumed
   consumed_carried : (s s' : Stream) (n : ℕ) → s'.check ≡ s.check → s'.waiting ≡ kept n s.waiting → Carried s → Carried s'

@@ -1,6 +1,6 @@
 -- Every unit handed out, in every history and every fresh scan: it stands among the accepted bytes, its timestamp stands ahead of it, units don't
 -- overlap, and they are numbered one by one.
-use Rattle.std.specs.Prelude.{◌≡◌, refl, List, [], ◌∷◌, ◌++◌, ℕ, suc, ◌+◌, ◌-◌, ◌≤◌, take, drop}
+use Rattle.std.specs.Prelude.{◌≡◌, refl, List, [], ◌∷◌, ◌++◌, ℕ, suc, ◌+◌, ◌-◌, ◌≤◌, take, drop, Some}
 use Rattle.std.proofs.Common.{sym, ap, ◌∙◌, subst, arith, zero-add, length-append}
 use Rattle.std.proofs.lemmas.Bool.{false≢true}
 use Rattle.laws.specs.Parts.{part, part_further}
@@ -16,7 +16,6 @@ use Rattle.rules.specs.States.{at, Standing, Passed, Numbers}
 use Rattle.rules.specs.Units.{Stands, Hands, IfUnit, Follows, Carries, Stamped, Promised, Indexed, units_in}
 use Rattle.rules.proofs.OutcomeLaws.{step_hands}
 use Rattle.rules.proofs.StampLaws.{nothing_waits, standing_lasts}
-use Rattle.rules.specs.declared.Waiting.TheVariants.{Stamp as Waits}
 use Rattle.rules.specs.declared.Stream.{Stream}
 use Rattle.rules.specs.declared.Unit.{Unit as TheUnit}
 use Rattle.rules.specs.declared.Verdict.{Verdict}
@@ -35,9 +34,9 @@ hands_stands a s s' u u' x p h =
     same : part a x.position.0 x.length ≡ take x.length u
     same = ap (λ q. part a q.0 x.length) h.position ∙ sym (ap (take x.length) p.unread)
 
-hands_carries : (a : List ℕ) (s s' : Stream) (u u' : List ℕ) (x : TheUnit) → Stamped a s → Hands s u x s' u' → (t : Timestamp) → x.waiting ≡ Waits t → Carries a x t
+hands_carries : (a : List ℕ) (s s' : Stream) (u u' : List ℕ) (x : TheUnit) → Stamped a s → Hands s u x s' u' → (t : Timestamp) → x.waiting ≡ Some t → Carries a x t
 hands_carries a s s' u u' x q h t e =
-    let w : s.waiting ≡ Waits t = sym h.waiting ∙ e in
+    let w : s.waiting ≡ Some t = sym h.waiting ∙ e in
     record { first = h.index ∙ q.first t w; ahead = rw h.position (q.ahead t w) }
 
 promised_grows : (a p : List ℕ) (x : TheUnit) → Promised a x → Promised (a ++ p) x

@@ -1,5 +1,5 @@
 -- The reader's step keeps the machine's two laws: more bytes change no decision, a dry step may be resumed, and a step that isn't dry makes the size less.
-use Rattle.std.specs.Prelude.{◌≡◌, Bool, List, ◌++◌, leb, drop}
+use Rattle.std.specs.Prelude.{◌≡◌, Bool, List, ◌++◌, leb, drop, None, Option}
 use Rattle.std.proofs.Math.Path.{refl, sym, ap}
 use Rattle.std.proofs.Common.{◌∙◌, true≢false, add_assoc, add-zero, zero-add, suc-add, drop-drop}
 use Rattle.std.proofs.Math.Bool.{true, false}
@@ -21,10 +21,9 @@ use Rattle.rules.proofs.FindLaws.{found_fits, found_further, found_again, found_
 use Rattle.rules.proofs.VerdictLaws.{Says}
 use Rattle.rules.proofs.StepLaws.{step, step_locked, step_searching, step_shows}
 use Rattle.rules.specs.declared.Stream.{Stream}
-use Rattle.rules.specs.declared.Waiting.{Waiting}
-use Rattle.rules.specs.declared.Waiting.TheVariants.{Nothing}
 use Rattle.rules.specs.declared.Verdict.{Verdict}
 use Rattle.rules.specs.declared.Verdict.TheVariants.{Lock, Lost, Short, Failed, Whole}
+use Rattle.timestamp.specs.declared.Timestamp.{Timestamp}
 
 -- 1. A step that isn't dry makes the size less.
 
@@ -63,12 +62,12 @@ unfolding stamp_at
 arrive_again n u w s = rw add-zero
 
 -- "Never seen before and at least 16 bytes precede the candidate: read those 16 as timestamp."
-pub stamp_read : (n : ℕ) (u : List ℕ) (w : Waiting) → 16 ≤ n → stamp_at false n u w ≡ stamp_of (parse_of (part u (n - 16) 16))
+pub stamp_read : (n : ℕ) (u : List ℕ) (w : Option Timestamp) → 16 ≤ n → stamp_at false n u w ≡ stamp_of (parse_of (part u (n - 16) 16))
 unfolding stamp_at
 stamp_read n u w l = rw (le-leb 16 n l)
 
 -- The 16 bytes before the candidate are there.
-stamp_at_further : (seen : Bool) (n : ℕ) (u v : List ℕ) (w : Waiting) → n ≤ length u → stamp_at seen n (u ++ v) w ≡ stamp_at seen n u w
+stamp_at_further : (seen : Bool) (n : ℕ) (u v : List ℕ) (w : Option Timestamp) → n ≤ length u → stamp_at seen n (u ++ v) w ≡ stamp_at seen n u w
 unfolding stamp_at
 stamp_at_further true n u v w l = refl
 stamp_at_further false n u v w l = go (leb 16 n) refl
@@ -96,14 +95,14 @@ candidate_further s u v n e f =
 -- 3. More bytes, where nothing was found: what was consumed is missed by no later search.
 
 -- "Consuming any byte drops a waiting timestamp."
-kept_drops : (n : ℕ) (w : Waiting) → kept (suc n) w ≡ Nothing
+kept_drops : (n : ℕ) (w : Option Timestamp) → kept (suc n) w ≡ None
 kept_drops n w = refl
 
-kept_nothing : (n : ℕ) → kept n Nothing ≡ Nothing
+kept_nothing : (n : ℕ) → kept n None ≡ None
 kept_nothing zero = refl
 kept_nothing (suc n) = refl
 
-kept_kept : (d n : ℕ) (w : Waiting) → kept (d + n) w ≡ kept n (kept d w)
+kept_kept : (d n : ℕ) (w : Option Timestamp) → kept (d + n) w ≡ kept n (kept d w)
 kept_kept zero n w = rw (zero-add n)
 kept_kept (suc d) n w = rw (suc-add d n) (sym (kept_nothing n))
 
@@ -127,7 +126,7 @@ module _ (u v : List ℕ) where
   drop_further : (d n : ℕ) → d ≤ length u → drop (d + n) (u ++ v) ≡ drop n (drop d u ++ v)
   drop_further d n h = sym (ap (drop n) (sym (drop-append-le d u v h)) ∙ drop-drop n d (u ++ v))
 
-  stamp_at_behind : (seen : Bool) (d m : ℕ) (w : Waiting) → d ≤ length u → (seen ≡ false → 16 ≤ m)
+  stamp_at_behind : (seen : Bool) (d m : ℕ) (w : Option Timestamp) → d ≤ length u → (seen ≡ false → 16 ≤ m)
       → stamp_at seen (d + m) (u ++ v) w ≡ stamp_at seen m (drop d u ++ v) (kept d w)
   unfolding stamp_at
   stamp_at_behind true d m w h g = kept_kept d m w

@@ -1,5 +1,5 @@
 -- The waiting timestamp: where it is stored, that it stands ahead of the read position until it goes, and that the first unit alone carries one.
-use Rattle.std.specs.Prelude.{◌≡◌, Bool, true, false, List, [], ◌++◌, ℕ, zero, suc, ◌+◌, ◌-◌, ◌≤◌, leb, length, take, drop}
+use Rattle.std.specs.Prelude.{◌≡◌, Bool, true, false, List, [], ◌++◌, ℕ, zero, suc, ◌+◌, ◌-◌, ◌≤◌, leb, length, take, drop, Err, None, Ok, Option, Result, Some}
 use Rattle.std.proofs.Math.Path.{refl}
 use Rattle.std.proofs.Common.{sym, ap, ◌∙◌, subst, true≢false, arith, add-zero, drop-drop, leb-true}
 use Rattle.std.proofs.lemmas.Bool.{false≢true}
@@ -10,8 +10,6 @@ use Rattle.machine.specs.Ask.{Eat, goal}
 use Rattle.machine.specs.Always.{AfterStep, Placed, Lasts}
 use Rattle.machine.proofs.AlwaysLaws.{placed_lasts}
 use Rattle.timestamp.specs.declared.Timestamp.{Timestamp}
-use Rattle.timestamp.specs.declared.Parsed.{Parsed}
-use Rattle.timestamp.specs.declared.Parsed.TheVariants.{Stamp as Parses, Refused}
 use Rattle.timestamp.specs.Timestamp.{parse_of}
 use Rattle.rules.specs.Search.{find, keep, kept, stamp_of, stamp_at}
 use Rattle.rules.specs.Request.{advance, lose, arrive, lock, act, reader}
@@ -21,39 +19,38 @@ use Rattle.rules.proofs.StepLaws.{step, verdict_step, step_shows, moved_shows, a
 use Rattle.rules.specs.States.{at, Standing}
 use Rattle.rules.proofs.FitLaws.{reader_counts}
 use Rattle.rules.specs.Units.{Ahead, Stamped}
-use Rattle.rules.specs.declared.Waiting.{Waiting}
-use Rattle.rules.specs.declared.Waiting.TheVariants.{Nothing, Stamp as Waits}
 use Rattle.rules.specs.declared.Stream.{Stream}
 use Rattle.rules.specs.declared.Loss.TheVariants.{Length, Check}
 use Rattle.rules.specs.declared.Verdict.{Verdict}
 use Rattle.rules.specs.declared.Verdict.TheVariants.{Lock, Lost, Short, Failed, Whole}
+use Rattle.timestamp.specs.declared.TimestampError.{TimestampError}
 
 -- 1. What waits after bytes were consumed, and after arriving at a candidate.
 
-pub nothing_waits : {P : Type 0} (t : Timestamp) → Nothing ≡ Waits t → P
+pub nothing_waits : {P : Type 0} (t : Timestamp) → None ≡ Some t → P
 nothing_waits t e = absurd (let z : ◌≡◌ {A = ℕ} 0 1 = cc in omega arith)
 
 -- "Consuming any byte drops a waiting timestamp"
-pub kept_tells : (n : ℕ) (w : Waiting) (t : Timestamp) → kept n w ≡ Waits t → (n ≡ 0) × (w ≡ Waits t)
+pub kept_tells : (n : ℕ) (w : Option Timestamp) (t : Timestamp) → kept n w ≡ Some t → (n ≡ 0) × (w ≡ Some t)
 kept_tells zero w t e = (refl, e)
 kept_tells (suc n) w t e = nothing_waits t e
 
-stamp_of_tells : (p : Parsed) (t : Timestamp) → stamp_of p ≡ Waits t → p ≡ Parses t
-stamp_of_tells (Parses x) t e = let y : x ≡ t = cc in ap Parses y
-stamp_of_tells (Refused r) t e = nothing_waits t e
+stamp_of_tells : (p : Result Timestamp TimestampError) (t : Timestamp) → stamp_of p ≡ Some t → p ≡ Ok t
+stamp_of_tells (Ok x) t e = let y : x ≡ t = cc in ap Ok y
+stamp_of_tells (Err r) t e = nothing_waits t e
 
 -- Where no sync was seen before and 16 bytes precede the candidate, what waits then is the parse of those 16.
 pub stamp_stored : (s : Stream) (u : List ℕ) (n : ℕ) → s.seen ≡ false → 16 ≤ n → (arrive n u s).waiting ≡ stamp_of (parse_of (part u (n - 16) 16))
 stamp_stored s u n e l = rw e (stamp_read n u s.waiting l)
 
 -- What waits at a candidate was stored there, or waited before and no byte was consumed.
-pub stamp_at_tells : (P : Type 0) (seen : Bool) (n : ℕ) (u : List ℕ) (w : Waiting) (t : Timestamp)
-    → (seen ≡ false → 16 ≤ n → parse_of (part u (n - 16) 16) ≡ Parses t → P) → (n ≡ 0 → w ≡ Waits t → P) → stamp_at seen n u w ≡ Waits t → P
+pub stamp_at_tells : (P : Type 0) (seen : Bool) (n : ℕ) (u : List ℕ) (w : Option Timestamp) (t : Timestamp)
+    → (seen ≡ false → 16 ≤ n → parse_of (part u (n - 16) 16) ≡ Ok t → P) → (n ≡ 0 → w ≡ Some t → P) → stamp_at seen n u w ≡ Some t → P
 unfolding stamp_at
 stamp_at_tells P true n u w t f g e = let k = kept_tells n w t e in g k.0 k.1
 stamp_at_tells P false n u w t f g e = go (leb 16 n) refl e
   where
-    go : (b : Bool) → leb 16 n ≡ b → pick b (stamp_of (parse_of (part u (n - 16) 16))) (kept n w) ≡ Waits t → P
+    go : (b : Bool) → leb 16 n ≡ b → pick b (stamp_of (parse_of (part u (n - 16) 16))) (kept n w) ≡ Some t → P
     go true l x = f refl (leb-true 16 n l) (stamp_of_tells _ t x)
     go false l x = let k = kept_tells n w t x in g k.0 k.1
 
@@ -84,7 +81,7 @@ module _ (a : List ℕ) where
       same : 16 ≤ n → part a (at s + n - 16) 16 ≡ part u (n - 16) 16
       same l = let z : at s + n - 16 ≡ at s + (n - 16) = omega arith in rw (p.unread, z, drop-drop (n - 16) (at s) a)
 
-      stored : {t : Timestamp} → s.seen ≡ false → 16 ≤ n → parse_of (part u (n - 16) 16) ≡ Parses t → Ahead a (at s + n) t
+      stored : {t : Timestamp} → s.seen ≡ false → 16 ≤ n → parse_of (part u (n - 16) 16) ≡ Ok t → Ahead a (at s + n) t
       stored e l x = record { there = omega arith; parsed = ap parse_of (same l) ∙ x }
 
   act_stamped : (w : Verdict) (M : ℕ) (s : Stream) (n : ℕ) (bs : List ℕ) → Says s.locked M n w → s.seen ≡ true → Stamped a s → Stamped a (goal (act s w n bs))

@@ -1,5 +1,5 @@
 -- Document 01, "A request (000, `next`)": definitions only.
-use Rattle.std.specs.Prelude.{ℕ, zero, suc, ◌+◌, ◌-◌, ◌*◌, ◌/◌, ◌%◌, Bool, true, false, ◌&&◌, List, leb, ltb, eqb, length, drop}
+use Rattle.std.specs.Prelude.{ℕ, zero, suc, ◌+◌, ◌-◌, ◌*◌, ◌/◌, ◌%◌, Bool, true, false, ◌&&◌, List, leb, ltb, eqb, length, drop, None}
 use Rattle.std.specs.Int.Bits.{bit_xor}
 use Rattle.laws.specs.Pick.{pick}
 use Rattle.laws.specs.First.{Place, At, Nowhere}
@@ -9,7 +9,6 @@ use Rattle.machine.specs.Ask.{Ask, done, either, ◌>>=◌, peek, Eat, eat, deci
 use Rattle.kinds.specs.declared.BytePosition.{BytePosition}
 use Rattle.crc.specs.declared.Algorithm.{Algorithm}
 use Rattle.rules.specs.Search.{find, keep, kept, stamp_at, sync_length, unit_length, candidate}
-use Rattle.rules.specs.declared.Waiting.TheVariants.{Nothing}
 use Rattle.rules.specs.declared.Losses.{Losses}
 use Rattle.rules.specs.declared.Loss.{Loss}
 use Rattle.rules.specs.declared.Loss.TheVariants.{Length, Check, Mismatch, Parity}
@@ -156,7 +155,7 @@ pass_on n s =
       substreams = s.substreams;
       locked = s.locked;
       seen = s.seen;
-      waiting = Nothing;
+      waiting = None;
       check = s.check;
     }
 
@@ -202,7 +201,7 @@ new a =
       substreams = 0;
       locked = false;
       seen = false;
-      waiting = Nothing;
+      waiting = None;
       check = a;
     }
 

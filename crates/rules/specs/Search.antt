@@ -1,5 +1,5 @@
 -- Document 01, "Search (000, `resync`)": definitions only.
-use Rattle.std.specs.Prelude.{ℕ, zero, suc, ◌+◌, ◌-◌, ◌*◌, ◌/◌, ◌%◌, Bool, ◌&&◌, ◌||◌, List, leb, ltb, eqb, length}
+use Rattle.std.specs.Prelude.{ℕ, zero, suc, ◌+◌, ◌-◌, ◌*◌, ◌/◌, ◌%◌, Bool, ◌&&◌, ◌||◌, List, leb, ltb, eqb, length, Err, None, Ok, Option, Result, Some}
 use Rattle.std.specs.Int.Bits.{bit_and}
 use Rattle.laws.specs.Pick.{pick}
 use Rattle.laws.specs.Parts.{byte_at, part}
@@ -8,13 +8,11 @@ use Rattle.laws.specs.First.{Place, first_from}
 use Rattle.machine.specs.Ask.{Ask, done, either, ◌>>=◌, peek, first, Eat, eat}
 use Rattle.crc.specs.declared.Algorithm.{Algorithm}
 use Rattle.crc.specs.Crc.{check_of}
-use Rattle.timestamp.specs.declared.Parsed.{Parsed}
-use Rattle.timestamp.specs.declared.Parsed.TheVariants.{Stamp, Refused}
 use Rattle.timestamp.specs.Timestamp.{parse_of}
-use Rattle.rules.specs.declared.Waiting.{Waiting}
-use Rattle.rules.specs.declared.Waiting.TheVariants.{Nothing, Stamp as Waits}
 use Rattle.rules.specs.declared.Verdict.{Verdict}
 use Rattle.rules.specs.declared.Verdict.TheVariants.{Lock, Short, Failed}
+use Rattle.timestamp.specs.declared.Timestamp.{Timestamp}
+use Rattle.timestamp.specs.declared.TimestampError.{TimestampError}
 
 -- the sync words F8726FBA and F8726FBB
 abbrev pub is_sync : ℕ → ℕ → ℕ → ℕ → Bool
@@ -33,17 +31,17 @@ abbrev pub keep : Bool → ℕ
 keep seen = pick seen 7 23
 
 -- 3. "Consuming any byte drops a waiting timestamp"
-abbrev pub kept : ℕ → Waiting → Waiting
+abbrev pub kept : ℕ → Option Timestamp → Option Timestamp
 kept zero w = w
-kept (suc n) w = Nothing
+kept (suc n) w = None
 
 -- "read those 16 as timestamp"; "Where the fields don't parse, the reader .. holds none"
-abbrev pub stamp_of : Parsed → Waiting
-stamp_of (Stamp t) = Waits t
-stamp_of (Refused e) = Nothing
+abbrev pub stamp_of : Result Timestamp TimestampError → Option Timestamp
+stamp_of (Ok t) = Some t
+stamp_of (Err e) = None
 
 -- "Never seen before and at least 16 bytes precede the candidate": those 16; in every other case what was kept
-unfoldable pub stamp_at : Bool → ℕ → List ℕ → Waiting → Waiting
+unfoldable pub stamp_at : Bool → ℕ → List ℕ → Option Timestamp → Option Timestamp
 stamp_at seen n u w = pick seen (kept n w) (pick (leb 16 n) (stamp_of (parse_of (part u (n - 16) 16))) (kept n w))
 
 -- 4. "Sync length: 26 if byte 7 of the candidate is BB hex; else 26 if byte 29 is even; else 28 plus (byte 30 divided by 8, masked with 1E hex)"

@@ -1,16 +1,14 @@
 -- What a unit is by its own bytes, and where it stands among the accepted bytes (document 01, "Search" and "A request"): definitions only.
-use Rattle.std.specs.Prelude.{◌≡◌, Bool, true, false, ◌&&◌, List, [], ◌∷◌, ℕ, suc, ◌+◌, ◌-◌, ◌*◌, ◌/◌, ◌%◌, ◌≤◌, ◌<◌, leb, eqb, length, take, drop}
+use Rattle.std.specs.Prelude.{◌≡◌, Bool, true, false, ◌&&◌, List, [], ◌∷◌, ℕ, suc, ◌+◌, ◌-◌, ◌*◌, ◌/◌, ◌%◌, ◌≤◌, ◌<◌, leb, eqb, length, take, drop, Ok, Some}
 use Rattle.std.proofs.Math.Option.{some}
 use Rattle.std.specs.Int.Bits.{bit_xor}
 use Rattle.laws.specs.Parts.{byte_at, part}
 use Rattle.laws.specs.Words.{word_at}
 use Rattle.machine.specs.Ask.{Ask, done, ◌>>=◌, ask}
 use Rattle.timestamp.specs.declared.Timestamp.{Timestamp}
-use Rattle.timestamp.specs.declared.Parsed.TheVariants.{Stamp as Parses}
 use Rattle.timestamp.specs.Timestamp.{parse_of}
 use Rattle.rules.specs.Search.{sync_length}
 use Rattle.rules.specs.Request.{End, directory, even, pass_on, Event, handed, too_short, failed}
-use Rattle.rules.specs.declared.Waiting.TheVariants.{Stamp as Waits}
 use Rattle.rules.specs.declared.Stream.{Stream}
 use Rattle.rules.specs.declared.Unit.{Unit as TheUnit}
 
@@ -95,7 +93,7 @@ pub record Follows (x y : TheUnit) : Type 0 where
 -- The 16 bytes ahead of place n are this timestamp.
 pub record Ahead (accepted : List ℕ) (n : ℕ) (t : Timestamp) : Type 0 where
   pub there : 16 ≤ n
-  pub parsed : parse_of (part accepted (n - 16) 16) ≡ Parses t
+  pub parsed : parse_of (part accepted (n - 16) 16) ≡ Ok t
 
 -- A unit that carries a timestamp is the first one handed out, and the 16 bytes ahead of it are the timestamp.
 pub record Carries (accepted : List ℕ) (x : TheUnit) (t : Timestamp) : Type 0 where
@@ -107,13 +105,13 @@ pub record Carries (accepted : List ℕ) (x : TheUnit) (t : Timestamp) : Type 0 
 pub record Stamped (accepted : List ℕ) (s : Stream) : Type 0 where
   pub seen : s.locked ≡ true → s.seen ≡ true
   pub unseen : s.seen ≡ false → s.frames ≡ 0
-  pub first : (t : Timestamp) → s.waiting ≡ Waits t → s.frames ≡ 0
-  pub ahead : (t : Timestamp) → s.waiting ≡ Waits t → Ahead accepted s.consumed.0 t
+  pub first : (t : Timestamp) → s.waiting ≡ Some t → s.frames ≡ 0
+  pub ahead : (t : Timestamp) → s.waiting ≡ Some t → Ahead accepted s.consumed.0 t
 
 -- What is promised of every unit handed out.
 pub record Promised (accepted : List ℕ) (x : TheUnit) : Type 0 where
   pub stands : Stands accepted x
-  pub carries : (t : Timestamp) → x.waiting ≡ Waits t → Carries accepted x t
+  pub carries : (t : Timestamp) → x.waiting ≡ Some t → Carries accepted x t
 
 -- The units among some events are numbered one by one, from k on.
 abbrev pub Indexed : ℕ → List Event → Type 0

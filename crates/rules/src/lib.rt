@@ -6,13 +6,6 @@ use crc::Algorithm;
 use kinds::BytePosition;
 use timestamp::Timestamp;
 
-// The timestamp that waits for the next unit, if one does.
-#[derive(Clone, Copy)]
-pub enum Waiting {
-    Nothing,
-    Stamp(Timestamp),
-}
-
 // The losses so far; every one raises the count of its kind.
 #[derive(Clone, Copy)]
 pub struct Losses {
@@ -37,7 +30,7 @@ pub struct Stream {
     pub substreams: u8,
     pub locked: bool,
     pub seen: bool,
-    pub waiting: Waiting,
+    pub waiting: Option<Timestamp>, // for the next unit
     pub check: Algorithm,
 }
 
@@ -50,7 +43,7 @@ pub struct Unit {
     pub length: u16,
     pub major: bool,
     pub substreams: u8,
-    pub waiting: Waiting,
+    pub waiting: Option<Timestamp>,
 }
 
 // What is decided on a candidate or a unit.

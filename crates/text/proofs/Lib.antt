@@ -1,6 +1,8 @@
--- Decimal and hexadecimal digits, pairs and scans, a law a turn; and that each call has one answer.
+-- Decimal and hexadecimal digits, pairs, scans and pages; and that each call has one answer.
+mod Alike
 mod Decimal
 mod Digits
 pub mod One
+mod Pages
 mod Pairs
 mod Stops

@@ -5,8 +5,10 @@ use Rattle.text.proofs.next_word.Reads as next_word
 use Rattle.text.proofs.hex_number.Reads as hex-number
 use Rattle.text.proofs.hex_bytes.Reads as hex-bytes
 use Rattle.text.proofs.decimal_number.Reads as decimal-number
-use Rattle.text.proofs.put.Reads as put
-use Rattle.text.proofs.put_decimal.Reads as put-decimal
+use Rattle.text.proofs.Page.new.Reads as page-new
+use Rattle.text.proofs.Page.written.Reads as page-written
+use Rattle.text.proofs.Page.put.Reads as page-put
+use Rattle.text.proofs.Page.put_decimal.Reads as page-put-decimal
 
 pub line_end_one : (κs : _) (a : _) (r r' : _) (e e' : _) → line_end_lem.Post κs a r e → line_end_lem.Post κs a r' e' → r ≡ r'
 line_end_one κs a r r' e e' p q = p.0 ∙ sym q.0
@@ -24,8 +26,15 @@ decimal_number_one κs a r r' e e' p q = p ∙ sym q
 pub hex_bytes_one : (κs : _) (a : _) (r r' : _) (e e' : _) → hex-bytes.Post κs a r e → hex-bytes.Post κs a r' e' → (r ≡ r') × (e.1.0.now ≡ e'.1.0.now)
 hex_bytes_one κs a r r' e e' p q = (p.0 ∙ sym q.0, p.1.0 ∙ sym q.1.0)
 
-pub put_one : (κs : _) (a : _) (r r' : _) (e e' : _) → put.Post κs a r e → put.Post κs a r' e' → (r ≡ r') × (e.0.now ≡ e'.0.now)
-put_one κs a r r' e e' p q = (p.0 ∙ sym q.0, p.1 ∙ sym q.1)
+-- a page: the slice that it is over, what that holds, and how far it is written
+pub new_one : (κs : _) (a : _) (r r' : _) (e e' : _) → page-new.Post κs a r e → page-new.Post κs a r' e' → r ≡ r'
+new_one κs a r r' e e' p q = p ∙ sym q
 
-pub put_decimal_one : (κs : _) (a : _) (r r' : _) (e e' : _) → put-decimal.Post κs a r e → put-decimal.Post κs a r' e' → (r ≡ r') × (e.0.now ≡ e'.0.now)
-put_decimal_one κs a r r' e e' p q = (p.0 ∙ sym q.0, p.1 ∙ sym q.1)
+pub written_one : (κs : _) (a : _) (r r' : _) (e e' : _) → page-written.Post κs a r e → page-written.Post κs a r' e' → r.now ≡ r'.now
+written_one κs a r r' e e' p q = p ∙ sym q
+
+pub put_one : (κs : _) (a : _) (r r' : _) (e e' : _) → page-put.Post κs a r e → page-put.Post κs a r' e' → e.0.now ≡ e'.0.now
+put_one κs a r r' e e' p q = p ∙ sym q
+
+pub put_decimal_one : (κs : _) (a : _) (r r' : _) (e e' : _) → page-put-decimal.Post κs a r e → page-put-decimal.Post κs a r' e' → e.0.now ≡ e'.0.now
+put_decimal_one κs a r r' e e' p q = p ∙ sym q

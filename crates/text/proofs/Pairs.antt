@@ -1,109 +1,107 @@
--- Pairs of hexadecimal digits: a text of digits and no others, and the bytes that it writes, one a turn.
-use Prim.Native.Nat.{ℕ, zero, suc, ◌+◌, ◌*◌, ◌/◌, ◌%◌, ◌≤◌, ◌<◌}
-use native.Mathlib.Nat.{zero-add, mod-eq_of_lt}
-use native.Mathlib.Omega.{arith}
-use native.Mathlib.Numerals.{add-one}
-use borrow.Author.Tests.{ltb-true, le-leb, lt-leb, lt-ltb, le-ltb, eq-eqb, ne_eqb}
-use mathlib.Core.Path.{◌≡◌, refl, sym, ap, ap₂, ◌∙◌}
-use mathlib.Core.Bool.{Bool, true, false}
-use mathlib.Core.List.{List, [], ◌∷◌}
-use lib.Dec.{ltb}
-use lib.ListN.{length, get_or, set, drop, drop_of_length-le}
-use lib.Seq.{paste, drop-cons}
+-- Pairs of hexadecimal digits: what each byte is, and what is written so far.
+use Rattle.std.proofs.Common.{◌≡◌, ℕ, zero, suc, ◌+◌, ◌/◌, ◌%◌, ◌≤◌, ◌<◌, true, false, Option, Some, None, IsSome, List, [], ◌∷◌, length, get_or, set, ltb, refl, sym, ap, ◌∙◌, arith, zero-add}
+use borrow.Author.Tests.{ltb-true, le-leb, lt-leb, eq-eqb, ne_eqb}
+use Rattle.std.proofs.Math.Seq.{paste}
+use Rattle.std.proofs.lemmas.List.Edits.{paste_more}
+use Rattle.std.proofs.lemmas.Bool.Decides.{nat_tests}
+use Rattle.std.specs.Option.{SomeIff}
+use Rattle.std.specs.Char.{is_ascii_hexdigit}
+use Rattle.std.specs.List.{list_all}
+use Rattle.std.specs.Simd.{first_chunks}
 use Rattle.laws.specs.Pick.{pick_same, both}
-use Rattle.laws.specs.Parts.{byte_at}
-use Rattle.text.specs.declared.Hex.{Hex}
-use Rattle.text.specs.Numbers.{hex_digit_of, all_hex, pairs_of, hex_good, hex_bytes_of, hex_bytes_on}
-use Rattle.laws.specs.Writes.{written, written_more}
+use Rattle.text.specs.Numbers.{hex_digit_of, BothDigits, byte_of, all_hex, pairs_of, hex_good, hex_bytes_of, hex_bytes_on}
 
--- each byte in its turn
-module _ (s : List ℕ) (i : ℕ) {x : Bool} (same : x ≡ all_hex (drop i s)) where
-  pub all_passed : length s ≤ i → true ≡ x
-  unfolding all_hex
-  all_passed h = sym (same ∙ ap all_hex (drop_of_length-le s h))
+-- a value that is there, and which
+pub is_there : (r : Option ℕ) (P : Type 0) (v : ℕ) → SomeIff r P v → P → IsSome r
+is_there None P v f p = absurd (f p)
+is_there (Some x) P v f p = refl
 
-  module _ (h : i < length s) {d : ℕ} (ed : d ≡ hex_digit_of (byte_at s i)) where
-    pub one_is_none : 15 < d → false ≡ x
-    unfolding all_hex
-    one_is_none l = sym (same ∙ ap all_hex (drop-cons s i 0 h) ∙ rw (← ed, le-ltb d 16 l))
+pub is_that : (r : Option ℕ) (P : Type 0) (v : ℕ) {x : ℕ} → SomeIff r P v → r ≡ Some x → x ≡ v
+is_that None P v f e = absurd (let z = e in cc)
+is_that (Some y) P v f e = let z = e in let k = f.1 in cc
 
-    pub one_is_hex : d ≤ 15 → x ≡ all_hex (drop (i + 1) s)
-    unfolding all_hex
-    one_is_hex l = same ∙ ap all_hex (drop-cons s i 0 h) ∙ rw (← ed, lt-ltb d 16 (omega arith), add-one)
+-- is each byte a digit?
+pub all_is : (s : List ℕ) → list_all is_ascii_hexdigit s ≡ all_hex s
+unfolding all_hex hex_digit_of
+all_is [] = refl
+all_is (b ∷ s) = let e = all_is s in grind (arith, nat_tests)
 
-each_hex : (s : List ℕ) → all_hex s ≡ true → (i : ℕ) → i < length s → hex_digit_of (byte_at s i) < 16
+-- the i-th of n pairs
+abbrev pub first : ℕ → ℕ → List ℕ → ℕ
+first n i s = get_or (get_or (first_chunks 2 n s) i []) 0 0
+
+abbrev pub second : ℕ → ℕ → List ℕ → ℕ
+second n i s = get_or (get_or (first_chunks 2 n s) i []) 1 0
+
+pub digits_at : (s : List ℕ) (n i : ℕ) → i < n → n + n ≤ length s → all_hex s ≡ true → BothDigits (first n i s) (second n i s)
 unfolding all_hex
-each_hex [] a i h = absurd (omega arith)
-each_hex (b ∷ s) a zero h = ltb-true (hex_digit_of b) 16 (both (ltb (hex_digit_of b) 16) (all_hex s) a).0
-each_hex (b ∷ s) a (suc i) h = each_hex s (both (ltb (hex_digit_of b) 16) (all_hex s) a).1 i (omega arith)
+digits_at [] n i h k a = absurd (omega arith)
+digits_at (x ∷ []) n i h k a = absurd (omega arith)
+digits_at (x ∷ y ∷ s) zero i h k a = absurd (omega arith)
+digits_at (x ∷ y ∷ s) (suc n) zero h k a =
+    let p = both (ltb (hex_digit_of x) 16) _ a in (ltb-true (hex_digit_of x) 16 p.0, ltb-true (hex_digit_of y) 16 (both (ltb (hex_digit_of y) 16) (all_hex s) p.1).0)
+digits_at (x ∷ y ∷ s) (suc n) (suc i) h k a = digits_at s n i (omega arith) (omega arith) (both (ltb (hex_digit_of y) 16) (all_hex s) (both (ltb (hex_digit_of x) 16) _ a).1).1
+
+pair_at : (s : List ℕ) (n i : ℕ) → i < n → n + n ≤ length s → get_or (pairs_of s) i 0 ≡ byte_of (first n i s) (second n i s)
+unfolding pairs_of
+pair_at [] n i h k = absurd (omega arith)
+pair_at (x ∷ []) n i h k = absurd (omega arith)
+pair_at (x ∷ y ∷ s) zero i h k = absurd (omega arith)
+pair_at (x ∷ y ∷ s) (suc n) zero h k = refl
+pair_at (x ∷ y ∷ s) (suc n) (suc i) h k = pair_at s n i (omega arith) (omega arith)
 
 pairs_length : (s : List ℕ) (n : ℕ) → n + n ≡ length s → length (pairs_of s) ≡ n
 unfolding pairs_of
 pairs_length [] zero e = refl
 pairs_length [] (suc n) e = absurd (omega arith)
-pairs_length (a ∷ []) n e = absurd (omega arith)
-pairs_length (a ∷ b ∷ s) zero e = absurd (omega arith)
-pairs_length (a ∷ b ∷ s) (suc n) e = ap suc (pairs_length s n (omega arith))
-
-pair_at : (s : List ℕ) (i : ℕ) → 2 * i + 1 < length s → get_or (pairs_of s) i 0 ≡ hex_digit_of (byte_at s (2 * i)) * 16 + hex_digit_of (byte_at s (2 * i + 1))
-unfolding pairs_of
-pair_at [] i h = absurd (omega arith)
-pair_at (a ∷ []) i h = absurd (omega arith)
-pair_at (a ∷ b ∷ s) zero h = refl
-pair_at (a ∷ b ∷ s) (suc i) h =
-    let e : 2 * suc i ≡ suc (suc (2 * i)) = omega arith in
-    let f : 2 * suc i + 1 ≡ suc (suc (2 * i + 1)) = omega arith in
-    pair_at s i (omega arith)
-    ∙ sym (ap₂ (λ (k l : ℕ). hex_digit_of (byte_at (a ∷ b ∷ s) k) * 16 + hex_digit_of (byte_at (a ∷ b ∷ s) l)) e f)
+pairs_length (x ∷ []) n e = absurd (omega arith)
+pairs_length (x ∷ y ∷ s) zero e = absurd (omega arith)
+pairs_length (x ∷ y ∷ s) (suc n) e = ap suc (pairs_length s n (omega arith))
 
 -- the i-th pair: its byte is written where it belongs
-pub pair_written : (d b s : List ℕ) (n i : ℕ) → all_hex s ≡ true → n + n ≡ length s → n ≤ length d → i < n → b ≡ written d 0 (pairs_of s) i
-    → {hi lo : ℕ} → hi ≡ hex_digit_of (byte_at s (2 * i)) → lo ≡ hex_digit_of (byte_at s (2 * i + 1)) → set b i (hi % 16 * 16 + lo % 16) ≡ written d 0 (pairs_of s) (i + 1)
-pair_written d b s n i all whole room h e {hi} {lo} eh el =
+pub pair_written : (d b s : List ℕ) (n i : ℕ) → i < n → n + n ≡ length s → n ≤ length d → b ≡ paste d 0 (pairs_of s) i → {x : ℕ} → x ≡ byte_of (first n i s) (second n i s)
+    → set b i x ≡ paste d 0 (pairs_of s) (i + 1)
+pair_written d b s n i h whole room e {x} ex =
     let l = pairs_length s n whole in
-    let first : hi % 16 ≡ hi = mod-eq_of_lt (rw eh (each_hex s all (2 * i) (omega arith))) in
-    let second : lo % 16 ≡ lo = mod-eq_of_lt (rw el (each_hex s all (2 * i + 1) (omega arith))) in
-    ap₂ (λ (x y : ℕ). set b i (x * 16 + y)) (first ∙ eh) (second ∙ el)
-    ∙ ap (set b i) (sym (pair_at s i (omega arith)))
-    ∙ ap (λ (k : ℕ). set b k (get_or (pairs_of s) i 0)) (sym (zero-add i))
-    ∙ written_more d b (pairs_of s) 0 i (omega arith) (omega arith) e
-
-pub pairs_written : (d b s : List ℕ) (n i : ℕ) → i ≤ n → n ≤ i → b ≡ written d 0 (pairs_of s) i → b ≡ paste d 0 (pairs_of s) n
-unfolding written
-pairs_written d b s n i u v e = let k : i ≡ n = omega arith in e ∙ ap (paste d 0 (pairs_of s)) k
+    let y : x ≡ get_or (pairs_of s) i 0 = ex ∙ sym (pair_at s n i h (omega arith)) in
+    rw (e, y) (ap (λ (k : ℕ). set (paste d 0 (pairs_of s) i) k (get_or (pairs_of s) i 0)) (sym (zero-add i)) ∙ paste_more d 0 (pairs_of s) i 0 (omega arith) (omega arith))
 
 -- the tests of `hex_bytes`, in their order
 module _ (s : List ℕ) (room : ℕ) where
-  pub odd : length s % 2 ≡ 1 → hex_good s room ≡ false
+  pub odd : 1 ≤ length s % 2 → hex_good s room ≡ false
   unfolding hex_good
-  odd e = rw (ne_eqb (length s % 2) 0 (λ z. omega arith))
+  odd h = rw (ne_eqb (length s % 2) 0 (λ z. omega arith))
 
   pub no_room : room < length s / 2 → hex_good s room ≡ false
   unfolding hex_good
   no_room h = simp (lt-leb (length s / 2) room h, pick_same)
 
-  module _ {x : Bool} (ex : x ≡ all_hex s) where
-    pub not_all : x ≡ false → hex_good s room ≡ false
-    unfolding hex_good
-    not_all f = simp (sym ex ∙ f, pick_same)
+  pub not_all : all_hex s ≡ false → hex_good s room ≡ false
+  unfolding hex_good
+  not_all f = simp (f, pick_same)
 
-    pub is_good : x ≡ true → (length s % 2 ≡ 1 → ⊥) → length s / 2 ≤ room → hex_good s room ≡ true
-    unfolding hex_good
-    is_good t f h = let e : length s % 2 ≡ 0 = omega arith in rw (eq-eqb (length s % 2) 0 e, le-leb (length s / 2) room h) (sym ex ∙ t)
-
-  pub answers_bad : hex_good s room ≡ false → ◌≡◌ {A = Hex} (record { good = false; count = 0 }) (hex_bytes_of s room)
-  unfolding hex_bytes_of
-  answers_bad f = rw f
-
-  pub answers_good : hex_good s room ≡ true → ◌≡◌ {A = Hex} (record { good = true; count = length s / 2 }) (hex_bytes_of s room)
-  unfolding hex_bytes_of
-  answers_good t = rw t
+  pub is_good : length s % 2 < 1 → length s / 2 ≤ room → all_hex s ≡ true → hex_good s room ≡ true
+  unfolding hex_good
+  is_good e h t = let z : length s % 2 ≡ 0 = omega arith in rw (eq-eqb (length s % 2) 0 z, le-leb (length s / 2) room h) t
 
 module _ (s d : List ℕ) where
-  pub writes_none : hex_good s (length d) ≡ false → d ≡ hex_bytes_on s d
-  unfolding hex_bytes_on
-  writes_none f = rw f
+  module _ (f : hex_good s (length d) ≡ false) where
+    pub no_answer : None ≡ hex_bytes_of s (length d)
+    unfolding hex_bytes_of
+    no_answer = rw f
 
-  pub writes_all : hex_good s (length d) ≡ true → {b : List ℕ} → b ≡ paste d 0 (pairs_of s) (length s / 2) → b ≡ hex_bytes_on s d
-  unfolding hex_bytes_on
-  writes_all t e = rw t e
+    pub unwritten : d ≡ hex_bytes_on s d
+    unfolding hex_bytes_on
+    unwritten = rw f
+
+  module _ (t : hex_good s (length d) ≡ true) {n : ℕ} (e : n ≡ length s / 2) where
+    pub answered : Some n ≡ hex_bytes_of s (length d)
+    unfolding hex_bytes_of
+    answered = rw (t, e)
+
+    pub all_written : {b : List ℕ} → b ≡ paste d 0 (pairs_of s) n → b ≡ hex_bytes_on s d
+    unfolding hex_bytes_on
+    all_written f = rw (t, ← e) f
+
+-- what the goals of `hex_bytes` need
+pub ruleset pair_steps = (is_there, is_that, digits_at, pair_written, odd, no_room, not_all, is_good, no_answer, unwritten, answered, all_written)

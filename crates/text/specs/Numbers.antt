@@ -1,10 +1,7 @@
 -- Numbers and bytes that digits write: definitions only.
-use Rattle.std.specs.Prelude.{ℕ, ◌+◌, ◌-◌, ◌*◌, ◌/◌, ◌%◌, Bool, true, false, List, [], ◌∷◌, leb, ltb, eqb, length}
+use Rattle.std.specs.Prelude.{ℕ, ◌+◌, ◌-◌, ◌*◌, ◌/◌, ◌%◌, ◌<◌, Bool, true, false, Option, Some, None, List, [], ◌∷◌, leb, ltb, eqb, length}
 use Rattle.std.proofs.Math.Seq.{paste}
 use Rattle.laws.specs.Pick.{pick}
-use Rattle.text.specs.declared.Number.{Number}
-use Rattle.text.specs.declared.Number.TheVariants.{Is, Bad}
-use Rattle.text.specs.declared.Hex.{Hex}
 
 -- from one byte to another
 abbrev pub between : ℕ → ℕ → ℕ → Bool
@@ -18,19 +15,19 @@ decimal_digit_of b = pick (between 48 57 b) (b - 48) 10
 unfoldable pub hex_digit_of : ℕ → ℕ
 hex_digit_of b = pick (between 48 57 b) (b - 48) (pick (between 65 70 b) (b - 55) (pick (between 97 102 b) (b - 87) 16))
 
--- the number that digits write behind a number already read, the one that comes first counting most; bad where one is no digit of the base
-unfoldable pub value_from : (ℕ → ℕ) → ℕ → ℕ → List ℕ → Number
-value_from digit base n [] = Is n
-value_from digit base n (b ∷ s) = pick (ltb (digit b) base) (value_from digit base (n * base + digit b) s) Bad
+-- the number that digits write behind a number already read, the one that comes first counting most; none where one is no digit of the base
+unfoldable pub value_from : (ℕ → ℕ) → ℕ → ℕ → List ℕ → Option ℕ
+value_from digit base n [] = Some n
+value_from digit base n (b ∷ s) = pick (ltb (digit b) base) (value_from digit base (n * base + digit b) s) None
 
 -- a number of one digit or more, and of no more than a word holds whatever they are
-unfoldable pub number_of : (ℕ → ℕ) → ℕ → ℕ → List ℕ → Number
-number_of digit base most s = pick (eqb (length s) 0) Bad (pick (leb (length s) most) (value_from digit base 0 s) Bad)
+unfoldable pub number_of : (ℕ → ℕ) → ℕ → ℕ → List ℕ → Option ℕ
+number_of digit base most s = pick (eqb (length s) 0) None (pick (leb (length s) most) (value_from digit base 0 s) None)
 
-unfoldable pub hex_number_of : List ℕ → Number
+unfoldable pub hex_number_of : List ℕ → Option ℕ
 hex_number_of s = number_of hex_digit_of 16 16 s
 
-unfoldable pub decimal_number_of : List ℕ → Number
+unfoldable pub decimal_number_of : List ℕ → Option ℕ
 decimal_number_of s = number_of decimal_digit_of 10 19 s
 
 -- is each byte a hexadecimal digit?
@@ -38,18 +35,27 @@ unfoldable pub all_hex : List ℕ → Bool
 all_hex [] = true
 all_hex (b ∷ s) = pick (ltb (hex_digit_of b) 16) (all_hex s) false
 
+-- both are hexadecimal digits
+abbrev pub BothDigits : ℕ → ℕ → Type 0
+BothDigits high low = (hex_digit_of high < 16) × (hex_digit_of low < 16)
+
+-- the byte that they write
+abbrev pub byte_of : ℕ → ℕ → ℕ
+byte_of high low = hex_digit_of high * 16 + hex_digit_of low
+
 -- a byte for each pair of digits
 unfoldable pub pairs_of : List ℕ → List ℕ
 pairs_of [] = []
 pairs_of (a ∷ []) = []
-pairs_of (a ∷ b ∷ s) = (hex_digit_of a * 16 + hex_digit_of b) ∷ pairs_of s
+pairs_of (a ∷ b ∷ s) = byte_of a b ∷ pairs_of s
 
 -- whole pairs of digits, whose bytes have room
 unfoldable pub hex_good : List ℕ → ℕ → Bool
 hex_good s room = pick (eqb (length s % 2) 0) (pick (leb (length s / 2) room) (all_hex s) false) false
 
-unfoldable pub hex_bytes_of : List ℕ → ℕ → Hex
-hex_bytes_of s room = pick (hex_good s room) (record { good = true; count = length s / 2 }) (record { good = false; count = 0 })
+-- how many bytes they write; none where they are not good
+unfoldable pub hex_bytes_of : List ℕ → ℕ → Option ℕ
+hex_bytes_of s room = pick (hex_good s room) (Some (length s / 2)) None
 
 -- the lent slice afterwards: the bytes at its start, what lies behind them as it was; where they are not good, all as it was
 unfoldable pub hex_bytes_on : List ℕ → List ℕ → List ℕ

@@ -2,263 +2,154 @@
 // numbers, and everything that matters happens in the proved libraries.
 #![tactic(auto)]
 
-ghost use Rattle.std.specs.Prelude.{◌≡◌, true, ◌+◌, ◌≤◌, min, length};
-ghost use Rattle.std.proofs.Math.Seq.{paste};
+ghost use Rattle.std.specs.Prelude.{◌≡◌, ◌^◌, ◌<◌, ◌≤◌, min, length, take, IfSome};
+ghost use Rattle.std.specs.Option.{SomeIff};
+ghost use Rattle.std.specs.Char.{digit_value};
 ghost use Rattle.io.specs.Counts.{IsPrefixLen};
-ghost use Rattle.text.specs.Numbers.{hex_digit_of, decimal_digit_of, hex_number_of, decimal_number_of, all_hex, pairs_of, hex_bytes_of, hex_bytes_on};
-ghost use Rattle.text.specs.Put.{put_of, put_end, decimal_of};
-ghost use Rattle.text.specs.Text.{Within, line_end_of, word_from, word_to, next_word_of};
+ghost use Rattle.text.specs.Numbers.{number_of, hex_number_of, decimal_number_of, all_hex, BothDigits, byte_of, hex_bytes_of, hex_bytes_on};
+ghost use Rattle.text.specs.Put.{page_with, decimal_of};
+ghost use Rattle.text.specs.Text.{Within, line_end_of, next_word_of};
 
-// A stretch of a slice: from the first place to the one past the last.
-#[derive(Clone, Copy)]
-pub struct Word {
-    pub from: usize,
-    pub to: usize,
-}
-
-// Bytes that were written into a lent slice.
-#[derive(Clone, Copy)]
-pub struct Hex {
-    pub good: bool,
-    pub count: usize,
-}
-
-#[derive(Clone, Copy)]
-pub enum Number {
-    Is(u64),
-    Bad,
-}
-
-// The value of a hexadecimal digit, 16 where it is none.
-fn digit(b: u8) -> u8
-    ensures value { result ≡ hex_digit_of b }
-    ensures within { result ≤ 16 }
-{
-    match b {
-        48..=57 => b - 48,
-        65..=70 => b - 55,
-        97..=102 => b - 87,
-        _ => 16,
-    }
-}
+use std::ops::Range;
 
 // The place of the line's end at or after `at`: of the line feed, or past the last byte.
 pub fn line_end(s: &[u8], at: usize) -> usize
     ensures place { result ≡ line_end_of s.now at }
     ensures within { Within (min at (length s.now)) result (length s.now) }
 {
-    let mut i = at;
-    while i < s.len() {
-        if s[i] == 10 {
-            return i;
-        }
-        i += 1;
-    }
-    s.len()
-}
-
-// The first place at or after `at`, and at most `end`, that holds no space.
-fn skip_spaces(s: &[u8], at: usize, end: usize) -> usize
-    requires { end ≤ length s.now }
-    ensures place { result ≡ word_from s.now at end }
-    ensures within { result ≤ end }
-{
-    let mut i = at;
-    while i < end {
-        if s[i] != 32 {
-            return i;
-        }
-        i += 1;
-    }
-    end
-}
-
-// The first place at or after `at`, and at most `end`, that holds a space.
-fn skip_word(s: &[u8], at: usize, end: usize) -> usize
-    requires { (at ≤ end) × (end ≤ length s.now) }
-    ensures place { result ≡ word_to s.now at end }
-    ensures within { (at ≤ result) × (result ≤ end) }
-{
-    let mut i = at;
-    while i < end {
-        if s[i] == 32 {
-            return i;
-        }
-        i += 1;
-    }
-    end
-}
-
-fn least(a: usize, b: usize) -> usize
-    ensures { result ≡ min a b }
-{
-    if a < b { a } else { b }
+    (at..s.len()).find(|i| s[*i] == b'\n').unwrap_or(s.len())
 }
 
 // The next word of the line that ends at `end`; empty at the line's end.
-pub fn next_word(s: &[u8], at: usize, end: usize) -> Word
+pub fn next_word(s: &[u8], at: usize, end: usize) -> Range<usize>
     ensures word { result ≡ next_word_of s.now at end }
-    ensures within { Within result.from result.to (length s.now) }
+    ensures within { Within result.start result.end (length s.now) }
 {
-    let last = least(end, s.len());
-    let from = skip_spaces(s, at, last);
-    let to = skip_word(s, from, last);
-    Word { from, to }
+    let end = end.min(s.len());
+    let from = (at..end).find(|i| s[*i] != b' ').unwrap_or(end);
+    let to = (from..end).find(|i| s[*i] == b' ').unwrap_or(end);
+    from..to
 }
 
-// A number of at most 16 hexadecimal digits. The remainder keeps every digit of so short a number, and shows that one more has room.
-pub fn hex_number(s: &[u8]) -> Number
+// The value of a digit of the radix, where the byte is one.
+fn digit<const RADIX: u32>(b: u8) -> Option<u8>
+    requires { (2 ≤ RADIX) × (RADIX ≤ 36) }
+    ensures { SomeIff result (digit_value b < RADIX) (digit_value b) }
+{
+    char::from(b).to_digit(RADIX).map(|value| value as u8)
+}
+
+// A number of at most MOST digits. So many fit in a word, whatever they are.
+#[tactic(auto, using(crate::proofs::Digits::digit_steps))]
+fn number<const RADIX: u32, const MOST: usize>(s: &[u8]) -> Option<u64>
+    requires radix { (2 ≤ RADIX) × (RADIX ≤ 36) }
+    requires room { RADIX ^ MOST ≤ 2 ^ 64 }
+    ensures { result ≡ number_of digit_value RADIX MOST s.now }
+{
+    if s.is_empty() || MOST < s.len() {
+        return None;
+    }
+    let mut n = 0;
+    for b in s {
+        n = n * u64::from(RADIX) + u64::from(digit::<RADIX>(*b)?);
+    }
+    Some(n)
+}
+
+// A number of at most 16 hexadecimal digits.
+#[tactic(auto, using(crate::proofs::Alike::hex_same))]
+pub fn hex_number(s: &[u8]) -> Option<u64>
     ensures { result ≡ hex_number_of s.now }
 {
-    if s.len() == 0 {
-        return Number::Bad;
-    }
-    if 16 < s.len() {
-        return Number::Bad;
-    }
-    let mut n: u64 = 0;
-    let mut i = 0;
-    while i < s.len() {
-        let d = digit(s[i]);
-        if 15 < d {
-            return Number::Bad;
-        }
-        n = n % 0x1000_0000_0000_0000 * 16 + d as u64;
-        i += 1;
-    }
-    Number::Is(n)
+    number::<16, 16>(s)
+}
+
+// A number of at most 19 decimal digits.
+#[tactic(auto, using(crate::proofs::Alike::decimal_same))]
+pub fn decimal_number(s: &[u8]) -> Option<u64>
+    ensures { result ≡ decimal_number_of s.now }
+{
+    number::<10, 19>(s)
 }
 
 // Is each byte a hexadecimal digit?
 fn all_hex(s: &[u8]) -> bool
     ensures { result ≡ all_hex s.now }
 {
-    let mut i = 0;
-    while i < s.len() {
-        if 15 < digit(s[i]) {
-            return false;
-        }
-        i += 1;
-    }
-    true
+    s.iter().all(u8::is_ascii_hexdigit)
 }
 
-// Writes the bytes of n pairs of digits at the start of a slice that has room for them. The remainders keep what a digit is worth, and show that a
-// pair has room in a byte.
-fn write_pairs(out: &mut [u8], s: &[u8], n: usize)
-    requires { (all_hex s.now ≡ true) × (n + n ≡ length s.now) × (n ≤ length out.old) }
-    ensures { out.new ≡ paste out.old 0 (pairs_of s.now) n }
+// The byte that two hexadecimal digits write, where both are digits.
+#[tactic(auto, using(crate::proofs::Alike::hex_digit_is))]
+fn hex_byte(high: u8, low: u8) -> Option<u8>
+    ensures { SomeIff result (BothDigits high low) (byte_of high low) }
 {
-    let mut i = 0;
-    while i < n {
-        let hi = digit(s[2 * i]);
-        let lo = digit(s[2 * i + 1]);
-        out[i] = hi % 16 * 16 + lo % 16;
-        i += 1;
-    }
+    Some(digit::<16>(high)? * 16 + digit::<16>(low)?)
 }
 
-// The bytes that pairs of hexadecimal digits write, put at the start of `out`, and how many they are; not good where a digit is none, a pair
+// The bytes that pairs of hexadecimal digits write, put at the start of `out`, and how many they are; none where a digit is none, a pair
 // is not whole, or there is no room, and then nothing is written.
-pub fn hex_bytes(s: &[u8], out: &mut [u8]) -> Hex
+#[tactic(auto, using(crate::proofs::Pairs::pair_steps))]
+pub fn hex_bytes(s: &[u8], out: &mut [u8]) -> Option<usize>
     ensures answer { result ≡ hex_bytes_of s.now (length out.old) }
     ensures holds { out.new ≡ hex_bytes_on s.now out.old }
-    ensures counts { IsPrefixLen result.count out.new }
+    ensures counts { IfSome result (λ n. IsPrefixLen n out.new) }
 {
-    let n = s.len() / 2;
-    if s.len() % 2 == 1 {
-        return Hex {
-            good: false,
-            count: 0,
-        };
+    let (pairs, []) = s.as_chunks::<2>() else {
+        return None;
+    };
+    if out.len() < pairs.len() || !all_hex(s) {
+        return None;
     }
-    if out.len() < n {
-        return Hex {
-            good: false,
-            count: 0,
-        };
+    for (i, [high, low]) in pairs.iter().enumerate() {
+        out[i] = hex_byte(*high, *low).unwrap();
     }
-    if all_hex(s) {
-        write_pairs(out, s, n);
-        return Hex {
-            good: true,
-            count: n,
-        };
-    }
-    Hex {
-        good: false,
-        count: 0,
-    }
+    Some(pairs.len())
 }
 
-// The value of a decimal digit, 10 where it is none.
-fn decimal_digit(b: u8) -> u8
-    ensures value { result ≡ decimal_digit_of b }
-    ensures within { result ≤ 10 }
-{
-    match b {
-        48..=57 => b - 48,
-        _ => 10,
-    }
+// A lent slice, and the place up to which it is written.
+#[derive(Debug, Drop)]
+pub struct Page<'a> {
+    pub bytes: &'a mut [u8],
+    pub end: usize,
 }
 
-// A number of at most 19 decimal digits; the remainder is as in `hex_number`.
-pub fn decimal_number(s: &[u8]) -> Number
-    ensures { result ≡ decimal_number_of s.now }
-{
-    if s.len() == 0 {
-        return Number::Bad;
+impl<'a> Page<'a> {
+    // A slice of which nothing is written.
+    pub fn new(bytes: &'a mut [u8]) -> Page<'a>
+        ensures { result ≡ record { bytes = bytes.entry; end = 0 } }
+    {
+        Page { bytes, end: 0 }
     }
-    if 19 < s.len() {
-        return Number::Bad;
+
+    // What is written.
+    pub fn written(&self) -> &[u8]
+        ensures { result.now ≡ take self.now.end self.now.bytes.now }
+    {
+        &self.bytes[..self.end.min(self.bytes.len())]
     }
-    let mut n: u64 = 0;
-    let mut i = 0;
-    while i < s.len() {
-        let d = decimal_digit(s[i]);
-        if 9 < d {
-            return Number::Bad;
+
+    // Puts a word behind what is written; where there is no room, nothing.
+    #[tactic(auto, using(crate::proofs::Pages::put_steps))]
+    pub fn put(&mut self, word: &[u8])
+        ensures { self.new ≡ page_with self.old word.now }
+    {
+        let Some(end) = self.end.checked_add(word.len()) else {
+            return;
+        };
+        if end <= self.bytes.len() {
+            self.bytes[self.end..end].copy_from_slice(word);
+            self.end = end;
         }
-        n = n % 1_000_000_000_000_000_000 * 10 + d as u64;
-        i += 1;
     }
-    Number::Is(n)
-}
 
-// Writes a word at a place that has room for it.
-fn write_at(out: &mut [u8], at: usize, word: &[u8])
-    requires { at + length word.now ≤ length out.old }
-    ensures { out.new ≡ paste out.old at word.now (length word.now) }
-{
-    let mut i = 0;
-    while i < word.len() {
-        out[at + i] = word[i];
-        i += 1;
+    // Puts a number, in the fewest decimal digits that hold it, as `put` does a word.
+    #[tactic(auto, using(crate::proofs::Decimal::decimal_is))]
+    pub fn put_decimal(&mut self, n: u64)
+        ensures { self.new ≡ page_with self.old (decimal_of n) }
+    {
+        let mut digits = [0; 20];
+        let k = io::decimal(n, &mut digits);
+        self.put(&digits[..k]);
     }
-}
-
-// Puts a word at a place of a lent slice, and says where it ends; where there is no room nothing is written, and the place itself is the
-// answer.
-pub fn put(out: &mut [u8], at: usize, word: &[u8]) -> usize
-    ensures at { result ≡ put_end (length out.old) at (length word.now) }
-    ensures holds { out.new ≡ put_of out.old at word.now }
-{
-    if out.len() < at {
-        return at;
-    }
-    if out.len() - at < word.len() {
-        return at;
-    }
-    write_at(out, at, word);
-    at + word.len()
-}
-
-// Puts a number at a place, in the fewest decimal digits that hold it, as `put` does a word.
-pub fn put_decimal(out: &mut [u8], at: usize, n: u64) -> usize
-    ensures at { result ≡ put_end (length out.old) at (length (decimal_of n)) }
-    ensures holds { out.new ≡ put_of out.old at (decimal_of n) }
-{
-    let mut digits = [0u8; 20];
-    let k = io::decimal(n, &mut digits);
-    put(out, at, &digits[..k])
 }

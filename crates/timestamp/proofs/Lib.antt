@@ -1,3 +1,2 @@
--- What each way out of a parse shows, and that each call has one answer.
+-- Each call has one answer.
 pub mod One
-mod Ways

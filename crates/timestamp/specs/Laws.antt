@@ -1,19 +1,16 @@
 -- What holds of every parse, and the cases P6 and P7 of document 01.
-use Rattle.std.specs.Prelude.{ℕ, ◌/◌, ◌%◌, ◌≤◌, ◌<◌, ◌≡◌, refl, ◌⊎◌, Bool, true, false, ◌&&◌, ◌||◌, List, [], ◌∷◌, ◌++◌, T, ltb, leb, eqb, length, replicate}
+use Rattle.std.specs.Prelude.{ℕ, ◌/◌, ◌%◌, ◌≤◌, ◌<◌, ◌≡◌, refl, ◌⊎◌, Bool, true, false, ◌&&◌, ◌||◌, List, [], ◌∷◌, ◌++◌, T, ltb, leb, eqb, length, replicate, Err, None, Ok, Option, Result, Some}
 use Rattle.std.proofs.Common.{arith, inl, inr, length-append}
 use borrow.Author.Tests.{le-ltb, lt-ltb, eq-eqb, ne_eqb}
 use Rattle.laws.specs.Pick.{pick_holds}
 use Rattle.laws.specs.Table.{at_each}
 use Rattle.laws.specs.Words.{word_at, word_at_further}
-use Rattle.timestamp.specs.Timestamp.{refusal, bcd_of, rate_of, stamp_of, with_digits, fields_of, parse_of}
+use Rattle.timestamp.specs.Timestamp.{refusal, bcd_of, rate_of, rate_code, stamp_of, with_digits, fields_of, parse_of}
 use Rattle.timestamp.specs.declared.Framerate.{Framerate}
 use Rattle.timestamp.specs.declared.Framerate.TheVariants.{R23_976, R24, R25, R29_97, R30, R50, R59_94, R60, Invalid}
 use Rattle.timestamp.specs.declared.Timestamp.{Timestamp}
 use Rattle.timestamp.specs.declared.TimestampError.TheVariants.{InsufficientData, InvalidSyncBytes, InvalidBcdDigit}
-use Rattle.timestamp.specs.declared.Digits.{Digits}
-use Rattle.timestamp.specs.declared.Digits.TheVariants.{Number, Invalid as NoDigits}
-use Rattle.timestamp.specs.declared.Parsed.{Parsed}
-use Rattle.timestamp.specs.declared.Parsed.TheVariants.{Stamp, Refused}
+use Rattle.timestamp.specs.declared.TimestampError.{TimestampError}
 
 -- "any more being ignored"
 pub parse_ignores_the_rest : (s v : List ℕ) → 16 ≤ length s → parse_of (s ++ v) ≡ parse_of s
@@ -25,7 +22,7 @@ parse_ignores_the_rest s v h =
 -- P6
 pub p6 :
     parse_of (0x01 ∷ 0x10 ∷ 0x00 ∷ 0x02 ∷ 0x00 ∷ 0x34 ∷ 0x00 ∷ 0x56 ∷ 0x00 ∷ 0x23 ∷ 0x00 ∷ 0x00 ∷ 0x00 ∷ 0x04 ∷ 0x80 ∷ 0x00 ∷ [])
-    ≡ Stamp
+    ≡ Ok
     (record {
       hours = 2;
       minutes = 34;
@@ -64,21 +61,26 @@ rate_fits_lem : (n : ℕ) → n < 16 → T (rate_fits (rate_of n))
 unfolding rate_of
 rate_fits_lem n h = at_each {A = ℕ} 0 (λ k x. rate_fits (rate_of k)) (replicate 16 0) tt n h
 
--- what holds of each stamp and of a digit refused holds of the fields, whatever they are
-module _ (P : Parsed → Type 0) (no_digit : P (Refused InvalidBcdDigit)) where
-  with_digits_lem : (d : Digits) {k : ℕ → Parsed} → ((n : ℕ) → P (k n)) → P (with_digits d k)
-  with_digits_lem (Number n) h = h n
-  with_digits_lem NoDigits h = no_digit
+-- a rate's code is the one that it was read from
+pub code_of_rate : (n : ℕ) → rate_code (rate_of n) ≡ n
+unfolding rate_of
+code_of_rate n = grind arith
 
-  pub every_fields : (s : List ℕ) → ((h m x f : ℕ) → P (Stamp (stamp_of h m x f (word_at s 10) (word_at s 12)))) → P (fields_of s)
+-- what holds of each stamp and of a digit refused holds of the fields, whatever they are
+module _ (P : Result Timestamp TimestampError → Type 0) (no_digit : P (Err InvalidBcdDigit)) where
+  with_digits_lem : (d : Option ℕ) {k : ℕ → Result Timestamp TimestampError} → ((n : ℕ) → P (k n)) → P (with_digits d k)
+  with_digits_lem (Some n) h = h n
+  with_digits_lem None h = no_digit
+
+  pub every_fields : (s : List ℕ) → ((h m x f : ℕ) → P (Ok (stamp_of h m x f (word_at s 10) (word_at s 12)))) → P (fields_of s)
   unfolding fields_of
   every_fields s p =
       with_digits_lem (bcd_of (word_at s 2))
       (λ h. with_digits_lem (bcd_of (word_at s 4)) (λ m. with_digits_lem (bcd_of (word_at s 6)) (λ x. with_digits_lem (bcd_of (word_at s 8)) (λ f. p h m x f))))
 
   -- and of every answer, if it holds of the other two refusals
-  pub every_parse : (s : List ℕ) → P (Refused InsufficientData) → P (Refused InvalidSyncBytes)
-      → ((h m x f : ℕ) → P (Stamp (stamp_of h m x f (word_at s 10) (word_at s 12)))) → P (parse_of s)
+  pub every_parse : (s : List ℕ) → P (Err InsufficientData) → P (Err InvalidSyncBytes)
+      → ((h m x f : ℕ) → P (Ok (stamp_of h m x f (word_at s 10) (word_at s 12)))) → P (parse_of s)
   unfolding parse_of
   every_parse s short sync p =
       pick_holds P (ltb (length s) 16) _ _ (λ e. short)
@@ -86,9 +88,9 @@ module _ (P : Parsed → Type 0) (no_digit : P (Refused InvalidBcdDigit)) where
       pick_holds P (eqb (word_at s 0) 0x0110) _ _ (λ a. pick_holds P (eqb (word_at s 14) 0x8000) _ _ (λ z. every_fields s p) (λ z. sync)) (λ a. sync))
 
 -- of an answer: what is to hold of its timestamp, if it has one
-abbrev pub OfStamp : (Timestamp → Type 0) → Parsed → Type 0
-OfStamp P (Stamp t) = P t
-OfStamp P (Refused e) = Unit {0}
+abbrev pub OfStamp : (Timestamp → Type 0) → Result Timestamp TimestampError → Type 0
+OfStamp P (Ok t) = P t
+OfStamp P (Err e) = Unit {0}
 
 -- "else invalid with its number": a parse gives 0 and 9 to 15 there, nothing else
 pub parsed_rate_fits : (s : List ℕ) → OfStamp (λ t. T (rate_fits t.framerate)) (parse_of s)

@@ -2,12 +2,14 @@
 // printing and its trace lines left out. Any slice is taken: too short is number 9, wrong sync bytes 10, a digit that is none 11.
 #![tactic(auto)]
 
-ghost use Rattle.std.specs.Prelude.{◌≡◌, ◌+◌, ◌≤◌, ◌<◌, length};
-ghost use Rattle.laws.specs.Words.{word as word_of, word_at};
-ghost use Rattle.timestamp.specs.Timestamp.{bcd_of, rate_of, stamp_of, fields_of, parse_of, number_of};
+ghost use Rattle.std.specs.Prelude.{◌≡◌};
+ghost use Rattle.timestamp.specs.Timestamp.{bcd_of, rate_of, rate_code, parse_of, number_of};
+
+use std::error::Error;
+use std::{array, fmt};
 
 // The frame rate by its code; a code that names no rate is kept as it came.
-#[derive(Clone, Copy)]
+#[derive(Clone, Copy, Debug, PartialEq, Eq)]
 pub enum Framerate {
     R23_976,
     R24,
@@ -20,7 +22,7 @@ pub enum Framerate {
     Invalid(u8),
 }
 
-#[derive(Clone, Copy)]
+#[derive(Clone, Copy, Debug, PartialEq, Eq)]
 pub struct Timestamp {
     pub hours: u16,
     pub minutes: u16,
@@ -34,32 +36,31 @@ pub struct Timestamp {
 }
 
 // Why sixteen bytes are no timestamp.
-#[derive(Clone, Copy)]
+#[derive(Clone, Copy, Debug, PartialEq, Eq)]
 pub enum TimestampError {
     InsufficientData,
     InvalidSyncBytes,
     InvalidBcdDigit,
 }
 
-#[derive(Clone, Copy)]
-pub enum Parsed {
-    Stamp(Timestamp),
-    Refused(TimestampError),
-}
-
-// What four BCD digits say.
-#[derive(Clone, Copy)]
-pub enum Digits {
-    Number(u16),
-    Invalid,
-}
-
-impl TimestampError {
-    // The number that the desk sees.
-    pub fn number(self) -> u8
-        ensures { result ≡ number_of self }
-    {
+impl fmt::Display for TimestampError {
+    fn fmt<W: fmt::Write>(&self, f: &mut fmt::Formatter<W>) -> fmt::Result {
         match self {
+            TimestampError::InsufficientData => write!(f, "too short for a timestamp"),
+            TimestampError::InvalidSyncBytes => write!(f, "wrong sync bytes"),
+            TimestampError::InvalidBcdDigit => write!(f, "a digit that is none"),
+        }
+    }
+}
+
+impl Error for TimestampError {}
+
+// The number that the desk sees.
+impl From<TimestampError> for u8 {
+    ghost from_gives = { λ error number. number ≡ number_of error };
+
+    fn from(error: TimestampError) -> u8 {
+        match error {
             TimestampError::InsufficientData => 9,
             TimestampError::InvalidSyncBytes => 10,
             TimestampError::InvalidBcdDigit => 11,
@@ -67,11 +68,12 @@ impl TimestampError {
     }
 }
 
-impl Framerate {
-    pub fn from(value: u8) -> Framerate
-        ensures { result ≡ rate_of value }
-    {
-        match value {
+impl From<u8> for Framerate {
+    ghost from_gives = { λ code rate. rate ≡ rate_of code };
+
+    #[tactic(auto, unfolding(crate::specs::Timestamp::rate_of))]
+    fn from(code: u8) -> Framerate {
+        match code {
             1 => Framerate::R23_976,
             2 => Framerate::R24,
             3 => Framerate::R25,
@@ -80,118 +82,68 @@ impl Framerate {
             6 => Framerate::R50,
             7 => Framerate::R59_94,
             8 => Framerate::R60,
-            _ => Framerate::Invalid(value),
+            _ => Framerate::Invalid(code),
         }
     }
 }
 
-// The big-endian word of two bytes.
-fn word(hi: u8, lo: u8) -> u16
-    ensures { result ≡ word_of hi lo }
-{
-    (hi as u16) * 256 + (lo as u16)
-}
+// The code that a rate stands for: of one that names no rate, the code that came.
+impl From<Framerate> for u8 {
+    ghost from_gives = { λ rate code. code ≡ rate_code rate };
 
-// The word at a place of the sixteen bytes.
-fn word_at(s: &[u8], i: usize) -> u16
-    requires { i + 1 < length s.now }
-    ensures { result ≡ word_at s.now i }
-{
-    word(s[i], s[i + 1])
+    fn from(rate: Framerate) -> u8 {
+        match rate {
+            Framerate::R23_976 => 1,
+            Framerate::R24 => 2,
+            Framerate::R25 => 3,
+            Framerate::R29_97 => 4,
+            Framerate::R30 => 5,
+            Framerate::R50 => 6,
+            Framerate::R59_94 => 7,
+            Framerate::R60 => 8,
+            Framerate::Invalid(code) => code,
+        }
+    }
 }
 
 impl Timestamp {
     // Four BCD digits: the number that they write.
-    pub fn parse_bcd16(value: u16) -> Digits
+    #[tactic(auto, unfolding(crate::specs::Timestamp::bcd_of))]
+    pub fn parse_bcd16(value: u16) -> Option<u16>
         ensures { result ≡ bcd_of value }
     {
-        let a = value / 4096 % 16;
-        let b = value / 256 % 16;
-        let c = value / 16 % 16;
-        let d = value % 16;
-        if 9 < a {
-            return Digits::Invalid;
+        let [a, b, c, d] = [value / 4096, value / 256 % 16, value / 16 % 16, value % 16];
+        if a > 9 || b > 9 || c > 9 || d > 9 {
+            return None;
         }
-        if 9 < b {
-            return Digits::Invalid;
-        }
-        if 9 < c {
-            return Digits::Invalid;
-        }
-        if 9 < d {
-            return Digits::Invalid;
-        }
-        Digits::Number(1000 * a + 100 * b + 10 * c + d)
-    }
-
-    // The four digits at a place of the sixteen bytes.
-    fn bcd_at(s: &[u8], i: usize) -> Digits
-        requires { i + 1 < length s.now }
-        ensures { result ≡ bcd_of (word_at s.now i) }
-    {
-        Timestamp::parse_bcd16(word_at(s, i))
-    }
-
-    // The four numbers, the samples and the flag word taken apart.
-    fn of(
-        hours: u16,
-        minutes: u16,
-        seconds: u16,
-        frames: u16,
-        samples: u16,
-        flags: u16,
-    ) -> Timestamp
-        ensures { result ≡ stamp_of hours minutes seconds frames samples flags }
-    {
-        let framerate = Framerate::from((flags / 4 % 16) as u8);
-        Timestamp {
-            hours,
-            minutes,
-            seconds,
-            frames,
-            samples,
-            reserved1: flags / 64,
-            framerate,
-            reserved2: flags / 2 % 2 == 1,
-            dropframe: flags % 2 == 1,
-        }
-    }
-
-    // What stands between the sync bytes.
-    fn fields(s: &[u8]) -> Parsed
-        requires { 16 ≤ length s.now }
-        ensures { result ≡ fields_of s.now }
-    {
-        let Digits::Number(hours) = Timestamp::bcd_at(s, 2) else {
-            return Parsed::Refused(TimestampError::InvalidBcdDigit);
-        };
-        let Digits::Number(minutes) = Timestamp::bcd_at(s, 4) else {
-            return Parsed::Refused(TimestampError::InvalidBcdDigit);
-        };
-        let Digits::Number(seconds) = Timestamp::bcd_at(s, 6) else {
-            return Parsed::Refused(TimestampError::InvalidBcdDigit);
-        };
-        let Digits::Number(frames) = Timestamp::bcd_at(s, 8) else {
-            return Parsed::Refused(TimestampError::InvalidBcdDigit);
-        };
-        let samples = word_at(s, 10);
-        let flags = word_at(s, 12);
-        Parsed::Stamp(Timestamp::of(hours, minutes, seconds, frames, samples, flags))
+        Some(1000 * a + 100 * b + 10 * c + d)
     }
 
     // The timestamp of the first 16 bytes given, any more being ignored.
-    pub fn from_bytes(buffer: &[u8]) -> Parsed
+    #[tactic(auto, unfolding(crate::specs::Timestamp::parse_of, crate::specs::Timestamp::fields_of, crate::specs::Timestamp::stamp_of))]
+    pub fn from_bytes(buffer: &[u8]) -> Result<Timestamp, TimestampError>
         ensures { result ≡ parse_of buffer.now }
     {
-        if buffer.len() < 16 {
-            return Parsed::Refused(TimestampError::InsufficientData);
+        let Some(bytes) = buffer.first_chunk::<16>() else {
+            return Err(TimestampError::InsufficientData);
+        };
+        let [head, hours, minutes, seconds, frames, samples, flags, tail]: [u16; 8] =
+            array::from_fn(|k| u16::from_be_bytes([bytes[2 * k], bytes[2 * k + 1]]));
+        if head != 0x0110 || tail != 0x8000 {
+            return Err(TimestampError::InvalidSyncBytes);
         }
-        if word_at(buffer, 0) != 0x0110 {
-            return Parsed::Refused(TimestampError::InvalidSyncBytes);
-        }
-        if word_at(buffer, 14) != 0x8000 {
-            return Parsed::Refused(TimestampError::InvalidSyncBytes);
-        }
-        Timestamp::fields(buffer)
+        let number = |digits| Timestamp::parse_bcd16(digits).ok_or(TimestampError::InvalidBcdDigit);
+        let [_, low] = flags.to_be_bytes();
+        Ok(Timestamp {
+            hours: number(hours)?,
+            minutes: number(minutes)?,
+            seconds: number(seconds)?,
+            frames: number(frames)?,
+            samples,
+            reserved1: flags / 64,
+            framerate: Framerate::from(low / 4 % 16),
+            reserved2: flags / 2 % 2 == 1,
+            dropframe: flags % 2 == 1,
+        })
     }
 }

@@ -1,30 +1,30 @@
 -- After a branch reset the first field that ends gives a start: the counter is 0 until then, and at counter 0 no field is held to another.
-use Rattle.std.proofs.Common.{◌≡◌, ℕ, Bool, true, false, eqb, leb, List, [], ◌∷◌, refl}
-use Rattle.laws.specs.Pick.{pick, pick_holds, both}
+use Rattle.std.proofs.Common.{◌≡◌, ℕ, Bool, true, false, Option, Some, None, Ok, Err, List, [], ◌∷◌, arith}
+use Rattle.std.proofs.lemmas.Bool.Decides.{nat_tests}
+use Rattle.laws.specs.Pick.{pick, both}
 use Rattle.timing.specs.declared.TimingContext.{TimingContext}
 use Rattle.timing.specs.declared.HiresTimingFault.{HiresTimingFault}
-use Rattle.timing.specs.declared.HiresTimingFault.TheVariants.{NoFault, ExtraZeroAfterEnd, ExtraZeroInField, InvalidZeroInField, Sequence}
+use Rattle.timing.specs.declared.HiresTimingFault.TheVariants.{ExtraZeroAfterEnd, ExtraZeroInField, InvalidZeroInField, Sequence}
 use Rattle.timing.specs.declared.HiresOutputTimingState.{HiresOutputTimingState}
-use Rattle.timing.specs.declared.Answer.{Answer}
-use Rattle.timing.specs.declared.Answer.TheVariants.{Nothing, Start, Record}
 use Rattle.timing.specs.declared.Updated.{Updated}
-use Rattle.timing.specs.Timing.{fits_of, step_of, updated_of, reset_of, start_of, ended_at, quietly}
+use Rattle.timing.specs.Timing.{fits_of, step_of, updated_of, reset_of, start_of, ended_at}
 use Rattle.timing.specs.Timing.{state0_of, states1to4_of, state5_of, states6to10_of, states11to15_of, field_end_of}
+use Rattle.timing.specs.Numbers.{Answer}
 use Rattle.timing.specs.Units.{Unit, after_of, answers_of}
 use Rattle.timing.proofs.Fit.{Fit, fit_says, fit_holds, update_fits, reset_fits, after_fits}
 
-abbrev pub is_sequence : HiresTimingFault → Bool
-is_sequence NoFault = false
-is_sequence (ExtraZeroAfterEnd unit) = false
-is_sequence (ExtraZeroInField unit) = false
-is_sequence (InvalidZeroInField unit) = false
-is_sequence (Sequence timing unit previous-timing previous-unit) = true
+abbrev pub is_sequence : Option HiresTimingFault → Bool
+is_sequence None = false
+is_sequence (Some (ExtraZeroAfterEnd unit)) = false
+is_sequence (Some (ExtraZeroInField unit)) = false
+is_sequence (Some (InvalidZeroInField unit)) = false
+is_sequence (Some (Sequence timing unit previous-timing previous-unit)) = true
 
 -- were all units answered nothing?
 abbrev pub is_nothing : Answer → Bool
-is_nothing Nothing = true
-is_nothing (Start v) = false
-is_nothing Record = false
+is_nothing (Ok None) = true
+is_nothing (Ok (Some start)) = false
+is_nothing (Err refusal) = false
 
 unfoldable pub all_nothing : List Answer → Bool
 all_nothing [] = true
@@ -35,36 +35,16 @@ record Clear (u : Updated) : Type 0 where
   pub unbroken : is_sequence u.next.fault ≡ false
   pub waits : is_nothing u.answer ≡ true → u.next.counter ≡ 0
 
-abbrev ClearTo : HiresOutputTimingState → Type 0
-ClearTo n = Clear (quietly n)
-
 module _ (r : HiresOutputTimingState) (z : r.counter ≡ 0) where
   -- at counter 0 a field's end is a start
   pub end_starts : (samples : ℕ)
-      → ◌≡◌ {A = Updated} (field_end_of r samples) (record { next = ended_at 1 r; answer = Start (start_of r.field samples) })
+      → ◌≡◌ {A = Updated} (field_end_of r samples) (record { next = ended_at 1 r; answer = Ok (Some (start_of r.field samples)) })
   unfolding field_end_of
   end_starts samples = simp z
 
   step_clear : (ctx : TimingContext) (bit : Bool) → Clear (step_of r ctx bit)
   unfolding step_of state0_of states1to4_of state5_of states6to10_of states11to15_of
-  step_clear ctx bit =
-      pick_holds Clear (eqb r.state 0) _ _ (λ _. record { unbroken = refl; waits = λ _. refl })
-      (λ _. pick_holds Clear (leb r.state 4) _ _
-      (λ _. pick_holds ClearTo bit _ _ (λ _. record { unbroken = refl; waits = λ _. z }) (λ _. record { unbroken = refl; waits = λ _. z }))
-      (λ _. pick_holds Clear (eqb r.state 5) _ _
-      (λ _. pick_holds ClearTo bit _ _ (λ _. record { unbroken = refl; waits = λ _. z })
-      (λ _. pick_holds ClearTo (eqb r.bits 0) _ _
-      (λ _. record { unbroken = refl; waits = λ _. z })
-      (λ _. record { unbroken = refl; waits = λ _. z })))
-      (λ _. pick_holds Clear (leb r.state 10) _ _
-      (λ _. pick_holds ClearTo bit _ _ (λ _. record { unbroken = refl; waits = λ _. z })
-      (λ _. pick_holds ClearTo (eqb r.state 10) _ _
-      (λ _. record { unbroken = refl; waits = λ _. z })
-      (λ _. record { unbroken = refl; waits = λ _. z })))
-      (λ _. pick_holds Clear bit _ _ (λ _. record { unbroken = refl; waits = λ _. z })
-      (λ _. pick_holds Clear (eqb r.state 15) _ _
-      (λ _. rw (end_starts ctx.samples) (record { unbroken = refl; waits = λ a. cc }))
-      (λ _. record { unbroken = refl; waits = λ _. z }))))))
+  step_clear ctx bit = grind (arith, nat_tests, end_starts)
 
   update_clear : Fit r → (ctx : TimingContext) (bit : Bool) → Clear (updated_of r ctx bit)
   unfolding updated_of
@@ -84,7 +64,7 @@ waiting r (u ∷ us) f z n =
 -- with it leaves a Sequence fault.
 pub record OnlyStarts (r : HiresOutputTimingState) : Type 0 where
   pub starts : (samples : ℕ)
-      → ◌≡◌ {A = Updated} (field_end_of r samples) (record { next = ended_at 1 r; answer = Start (start_of r.field samples) })
+      → ◌≡◌ {A = Updated} (field_end_of r samples) (record { next = ended_at 1 r; answer = Ok (Some (start_of r.field samples)) })
   pub unbroken : (ctx : TimingContext) (bit : Bool) → is_sequence (updated_of r ctx bit).next.fault ≡ false
 
 reset_counter : (r : HiresOutputTimingState) → fits_of r ≡ true → (reset_of r).next.counter ≡ 0
@@ -105,7 +85,4 @@ reset_only_starts r us e n =
 pub reset_keeps : (r : HiresOutputTimingState)
     → ((reset_of r).next.bits ≡ r.bits) × ((reset_of r).next.field ≡ r.field) × ((reset_of r).next.previous ≡ r.previous)
 unfolding reset_of
-reset_keeps r =
-    pick_holds (λ (u : Updated). (u.next.bits ≡ r.bits) × (u.next.field ≡ r.field) × (u.next.previous ≡ r.previous)) (fits_of r) _ _
-    (λ _. (refl, refl, refl))
-    (λ _. (refl, refl, refl))
+reset_keeps r = grind arith

@@ -1,13 +1,13 @@
 -- Document 01, "Start timing (002)", its sentences in their order. A bit is `true` where it is one.
-use Rattle.std.specs.Prelude.{ℕ, ◌+◌, ◌-◌, ◌*◌, ◌/◌, ◌%◌, ◌^◌, Bool, true, false, ◌==◌, nat_le, nat_lt}
+use Rattle.std.specs.Prelude.{ℕ, ◌+◌, ◌-◌, ◌*◌, ◌/◌, ◌%◌, ◌^◌, Bool, true, false, ◌==◌, nat_le, nat_lt, Some, None, Ok, Err}
 use Rattle.laws.specs.Pick.{pick}
 use Rattle.laws.specs.Powers.{minus}
 use Rattle.timing.specs.declared.TimingContext.{TimingContext}
 use Rattle.timing.specs.declared.Field.{Field}
 use Rattle.timing.specs.declared.HiresTimingFault.{HiresTimingFault}
-use Rattle.timing.specs.declared.HiresTimingFault.TheVariants.{NoFault, ExtraZeroAfterEnd, ExtraZeroInField, InvalidZeroInField, Sequence}
+use Rattle.timing.specs.declared.HiresTimingFault.TheVariants.{ExtraZeroAfterEnd, ExtraZeroInField, InvalidZeroInField, Sequence}
 use Rattle.timing.specs.declared.HiresOutputTimingState.{HiresOutputTimingState}
-use Rattle.timing.specs.declared.Answer.TheVariants.{Nothing, Start, Record}
+use Rattle.timing.specs.declared.RecordDoesNotFit.{RecordDoesNotFit}
 use Rattle.timing.specs.declared.Updated.{Updated}
 
 -- "For a timing record: state above 15, field counter above 3 or bit count above 65,535." Number 1 is given where the record doesn't fit.
@@ -29,7 +29,7 @@ fresh_of =
       bits = 0;
       field = no_field;
       previous = no_field;
-      fault = NoFault;
+      fault = None;
     }
 
 -- "Each step first drops the last fault": the record in another state, and no fault.
@@ -41,7 +41,7 @@ moved_to state r =
       bits = r.bits;
       field = r.field;
       previous = r.previous;
-      fault = NoFault;
+      fault = None;
     }
 
 -- "a fault in the field's form .. to 0"
@@ -53,7 +53,7 @@ faulted_by fault r =
       bits = r.bits;
       field = r.field;
       previous = r.previous;
-      fault = fault;
+      fault = Some fault;
     }
 
 -- "State 0: field counter cleared; 0 goes to 1."
@@ -65,7 +65,7 @@ state0_of r bit =
       bits = r.bits;
       field = r.field;
       previous = r.previous;
-      fault = NoFault;
+      fault = None;
     }
 
 -- "States 1 to 4: 0 goes up, 1 goes to 0."
@@ -81,7 +81,7 @@ started_by ctx r =
       bits = 0;
       field = record { timing = 0; unit = ctx.unit; output = ctx.output };
       previous = r.previous;
-      fault = NoFault;
+      fault = None;
     }
 
 -- "State 5: 1 starts a field .., to 6; 0 is a fault, "extra 0 after the data field end" if bits were counted, else "extra 0 in the datafield",
@@ -117,7 +117,7 @@ read_on state timing n r =
       bits = count_of r.bits n;
       field = record { timing = timing; unit = r.field.unit; output = r.field.output };
       previous = r.previous;
-      fault = NoFault;
+      fault = None;
     }
 
 -- "States 6 to 10: 1 shifts timing by state−6, to 11 (from 10 to 6); 0 goes up, from 10 a fault "invalid 0 in the datafield", to 0."
@@ -129,7 +129,7 @@ states6to10_of r bit =
 
 -- a step that answers nothing
 abbrev pub quietly : HiresOutputTimingState → Updated
-quietly r = record { next = r; answer = Nothing }
+quietly r = record { next = r; answer = Ok None }
 
 -- "A field's end raises the counter to at most 3."
 abbrev pub raised_of : ℕ → ℕ
@@ -160,7 +160,7 @@ ended_at counter r =
       bits = r.bits;
       field = r.field;
       previous = r.field;
-      fault = NoFault;
+      fault = None;
     }
 
 -- "if not, a Sequence fault, counter 0, previous field kept"; "a Sequence fault [names] both timings and both units"
@@ -172,14 +172,14 @@ broken_at r =
       bits = r.bits;
       field = r.field;
       previous = r.previous;
-      fault = Sequence r.field.timing r.field.unit r.previous.timing r.previous.unit;
+      fault = Some (Sequence r.field.timing r.field.unit r.previous.timing r.previous.unit);
     }
 
 -- "Counter 1: start .. Else the difference .."
 unfoldable pub field_end_of : HiresOutputTimingState → ℕ → Updated
 field_end_of r samples =
     pick (raised_of r.counter == 1)
-    (record { next = ended_at 1 r; answer = Start (start_of r.field samples) })
+    (record { next = ended_at 1 r; answer = Ok (Some (start_of r.field samples)) })
     (pick (continues_of r.field r.previous samples)
     (quietly (ended_at (raised_of r.counter) r))
     (quietly (broken_at r)))
@@ -192,9 +192,13 @@ states11to15_of r samples bit =
     (read_on (after_one_of r.state 15) (with_one_of r.field.timing (r.state - 10)) (r.state - 10) r))
     (pick (r.state == 15) (field_end_of r samples) (quietly (moved_to (r.state + 1) r)))
 
+-- what a refusal says: number 1 and nothing besides
+abbrev pub unfit : RecordDoesNotFit
+unfit = record {}
+
 -- number 1, "record, buffer unchanged"
 abbrev pub refused : HiresOutputTimingState → Updated
-refused r = record { next = r; answer = Record }
+refused r = record { next = r; answer = Err unfit }
 
 -- "One bit a unit": a step of a record that fits, by its state
 unfoldable pub step_of : HiresOutputTimingState → TimingContext → Bool → Updated
@@ -217,7 +221,7 @@ branched_from r =
       bits = r.bits;
       field = r.field;
       previous = r.previous;
-      fault = NoFault;
+      fault = None;
     }
 
 unfoldable pub reset_of : HiresOutputTimingState → Updated

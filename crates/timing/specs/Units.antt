@@ -2,8 +2,8 @@
 use Rattle.std.specs.Prelude.{ℕ, ◌+◌, Bool, List, [], ◌∷◌}
 use Rattle.timing.specs.declared.TimingContext.{TimingContext}
 use Rattle.timing.specs.declared.HiresOutputTimingState.{HiresOutputTimingState}
-use Rattle.timing.specs.declared.Answer.{Answer}
 use Rattle.timing.specs.Timing.{updated_of}
+use Rattle.timing.specs.Numbers.{Answer}
 
 -- what the parser knows of a unit, and its bit
 pub record Unit : Type 0 where

@@ -6,14 +6,18 @@
 // samples and output timing are kept and compared as they come, 64 bits wide; they are reduced modulo 2^32 where a field ends, by `low`.
 #![tactic(auto)]
 
-ghost use Rattle.std.specs.Prelude.{◌≡◌, ◌+◌, ◌*◌, ◌%◌, ◌^◌, ◌<◌, ◌≤◌};
+ghost use Rattle.std.specs.Prelude.{◌≡◌, ◌+◌, ◌*◌, ◌%◌, ◌^◌, ◌<◌, ◌≤◌, Some, codes};
 ghost use Rattle.timing.specs.Timing.{fresh_of, updated_of, reset_of};
 ghost use Rattle.timing.specs.Timing.{state0_of, states1to4_of, state5_of, states6to10_of, states11to15_of, field_end_of};
 ghost use Rattle.timing.specs.Timing.{moved_to, faulted_by, read_on, ended_at, broken_at, quietly, refused, counts_fit_of, count_of, raised_of, after_one_of, with_one_of};
 ghost use Rattle.timing.specs.Timing.{start_of, elapsed_of, continues_of};
+ghost use Rattle.timing.specs.Numbers.{refusal_number, text_of};
+
+use std::error::Error;
+use std::fmt;
 
 // What the parser knows of a unit: its number, the samples in each unit and its output timing.
-#[derive(Clone, Copy)]
+#[derive(Clone, Copy, Debug, PartialEq, Eq)]
 pub struct TimingContext {
     pub unit: u64,
     pub samples: u64,
@@ -21,7 +25,7 @@ pub struct TimingContext {
 }
 
 // A field: the timing it spells, the unit it began in and that unit's output timing.
-#[derive(Clone, Copy)]
+#[derive(Clone, Copy, Debug, Default, PartialEq, Eq)]
 pub struct Field {
     pub timing: u64,
     pub unit: u64,
@@ -29,9 +33,8 @@ pub struct Field {
 }
 
 // What the last step found wrong. A fault names the unit that the field began in, not the one where it surfaced.
-#[derive(Clone, Copy)]
+#[derive(Clone, Copy, Debug, PartialEq, Eq)]
 pub enum HiresTimingFault {
-    NoFault,
     ExtraZeroAfterEnd(u64),
     ExtraZeroInField(u64),
     InvalidZeroInField(u64),
@@ -43,30 +46,76 @@ pub enum HiresTimingFault {
     },
 }
 
+impl fmt::Display for HiresTimingFault {
+    ghost output = { λ fault. Some (text_of fault) };
+
+    fn fmt<W: fmt::Write>(&self, f: &mut fmt::Formatter<W>) -> fmt::Result {
+        match *self {
+            HiresTimingFault::ExtraZeroAfterEnd(unit) => {
+                write!(f, "extra 0 after the data field end, unit {unit}")
+            }
+            HiresTimingFault::ExtraZeroInField(unit) => {
+                write!(f, "extra 0 in the datafield, unit {unit}")
+            }
+            HiresTimingFault::InvalidZeroInField(unit) => {
+                write!(f, "invalid 0 in the datafield, unit {unit}")
+            }
+            HiresTimingFault::Sequence {
+                timing,
+                unit,
+                prev_timing,
+                prev_unit,
+            } => write!(
+                f,
+                "Sequence: timing {timing}, unit {unit}, previous timing {prev_timing}, unit {prev_unit}"
+            ),
+        }
+    }
+}
+
 // The record. `state` is the Rust's state_index, `bits` its serialisation_counter, `field` and `previous` its timing and prev_timing with their
-// units. The three small numbers can hold what does not fit, so that number 1 can be said of them.
-#[derive(Clone, Copy)]
+// units.
+//
+// Stays: `state` is a number and no enum, and no number is narrower: number 1 is said of states, counters and bit counts that don't fit, which
+// `updated_of` and `reset_of` are asked of.
+#[derive(Clone, Copy, Debug, Default, PartialEq, Eq)]
 pub struct HiresOutputTimingState {
     pub state: u8,
     pub counter: u8,
     pub bits: u32,
     pub field: Field,
     pub previous: Field,
-    pub fault: HiresTimingFault,
+    pub fault: Option<HiresTimingFault>,
 }
 
-#[derive(Clone, Copy)]
-pub enum Answer {
-    Nothing,
-    Start(u32),
-    // Number 1: the record doesn't fit and is unchanged.
-    Record,
+// Number 1: the record doesn't fit.
+#[derive(Clone, Copy, Debug, PartialEq, Eq)]
+pub struct RecordDoesNotFit;
+
+impl fmt::Display for RecordDoesNotFit {
+    ghost output = { λ _. Some (codes "the record does not fit") };
+
+    fn fmt<W: fmt::Write>(&self, f: &mut fmt::Formatter<W>) -> fmt::Result {
+        f.write_str("the record does not fit")
+    }
 }
 
-#[derive(Clone, Copy)]
+impl Error for RecordDoesNotFit {}
+
+// The number of the refusal.
+impl From<RecordDoesNotFit> for u32 {
+    ghost from_gives = { λ refusal number. number ≡ refusal_number refusal };
+
+    fn from(_refusal: RecordDoesNotFit) -> u32 {
+        1 // the only one that start timing has
+    }
+}
+
+// What a step answers, with the record after it: the stream's start where there is one. A record that is refused is unchanged.
+#[derive(Clone, Copy, Debug, PartialEq, Eq)]
 pub struct Updated {
     pub next: HiresOutputTimingState,
-    pub answer: Answer,
+    pub answer: Result<Option<u32>, RecordDoesNotFit>,
 }
 
 // A number modulo 2^32.
@@ -76,48 +125,44 @@ fn low(n: u64) -> u32
     (n % 0x1_0000_0000) as u32
 }
 
-// The product modulo 2^32, which std::num lacks.
-fn wrapping_mul_u32(a: u32, b: u32) -> u32
-    ensures { result ≡ (a * b) % 2 ^ 32 }
-{
-    low((a as u64) * (b as u64))
-}
-
 // Where in time the stream begins, told by its first field.
+#[tactic(auto, using(crate::proofs::Words::start_is))]
 fn stream_start(field: Field, samples: u64) -> u32
     ensures { result ≡ start_of field samples }
 {
-    let high = wrapping_mul_u32(low(field.timing), 65536);
-    let here = std::num::wrapping_add_u32(high, low(field.output));
-    let since = wrapping_mul_u32(low(field.unit), low(samples));
-    std::num::wrapping_sub_u32(here, since)
+    let here = low(field.timing)
+        .wrapping_mul(65536)
+        .wrapping_add(low(field.output));
+    let since = low(field.unit).wrapping_mul(low(samples));
+    here.wrapping_sub(since)
 }
 
 // The previous field's output timing, carried on to this field's unit and not wrapped at 16 bits: what stands above them is what the timing
 // should have risen by.
+#[tactic(auto, using(crate::proofs::Words::elapsed_is))]
 fn elapsed(unit: u64, previous: Field, samples: u64) -> u32
     ensures { result ≡ elapsed_of unit previous samples }
 {
-    let units = std::num::wrapping_sub_u32(low(unit), low(previous.unit));
-    let time = wrapping_mul_u32(units, low(samples));
-    std::num::wrapping_add_u32(time, low(previous.output))
+    low(unit)
+        .wrapping_sub(low(previous.unit))
+        .wrapping_mul(low(samples))
+        .wrapping_add(low(previous.output))
 }
 
 // Does the field continue the one before it?
+#[tactic(auto, using(crate::proofs::Words::continues_is))]
 fn continues(field: Field, previous: Field, samples: u64) -> bool
     ensures { result ≡ continues_of field previous samples }
 {
-    let risen = std::num::wrapping_sub_u32(low(field.timing), low(previous.timing));
-    let time = elapsed(field.unit, previous, samples);
-    risen == time / 65536
+    let risen = low(field.timing).wrapping_sub(low(previous.timing));
+    risen == elapsed(field.unit, previous, samples) / 65536
 }
 
 // The bit count with n more. It stops, so that it can be kept small for ever.
 fn count(bits: u32, n: u32) -> u32
-    requires { (bits ≤ 65535) × (n ≤ 5) }
     ensures { result ≡ count_of bits n }
 {
-    if 65535 < bits + n { 65535 } else { bits + n }
+    bits.saturating_add(n).min(65535)
 }
 
 // The state after a one inside a field. Five zeros end a field, so after four a one is put in that is no bit of the timing, and a new run
@@ -129,24 +174,12 @@ fn after_one(state: u8, last: u8) -> u8
 }
 
 // The timing with n more bits, a one and n − 1 zeros. The sum can't wrap: the shift leaves n zeros for it.
+#[tactic(auto, using(crate::proofs::Words::with_one_fits, crate::proofs::Words::with_one_is))]
 fn with_one(timing: u64, n: u32) -> u64
     requires { (1 ≤ n) × (n ≤ 5) }
     ensures { result ≡ with_one_of timing n }
 {
     (timing << n) + (1 << (n - 1))
-}
-
-// Do the two counts fit? What is left of number 1 is the state, which each caller tests where it looks at it.
-fn counts_fit(counter: u8, bits: u32) -> bool
-    ensures { result ≡ counts_fit_of counter bits }
-{
-    if 3 < counter {
-        return false;
-    }
-    if 65535 < bits {
-        return false;
-    }
-    true
 }
 
 // The counter after a field's end: all it tells is none yet, first, later.
@@ -157,38 +190,30 @@ fn raised(counter: u8) -> u8
 }
 
 impl HiresOutputTimingState {
+    // No zero yet, no field and no bit.
+    #[tactic(auto, unfolding(crate::specs::Timing::fresh_of))]
     pub fn fresh() -> Self
         ensures { result ≡ fresh_of }
     {
-        let none = Field {
-            timing: 0,
-            unit: 0,
-            output: 0,
-        };
-        HiresOutputTimingState {
-            state: 0, // no zero yet
-            counter: 0, // no field yet
-            bits: 0, // no bit yet
-            field: none,
-            previous: none,
-            fault: HiresTimingFault::NoFault,
-        }
+        HiresOutputTimingState::default()
+    }
+
+    // Do the two counts fit? What is left of number 1 is the state, which each caller tests where it looks at it.
+    #[tactic(auto, unfolding(crate::specs::Timing::counts_fit_of))]
+    fn counts_fit(self) -> bool
+        ensures { result ≡ counts_fit_of self.counter self.bits }
+    {
+        self.counter <= 3 && self.bits <= 65535
     }
 
     // In another state, the last fault dropped.
     fn to(self, state: u8) -> Self
         ensures { result ≡ moved_to state self }
     {
-        let field = self.field;
-        let previous = self.previous;
-        let fault = HiresTimingFault::NoFault;
         HiresOutputTimingState {
             state,
-            counter: self.counter,
-            bits: self.bits,
-            field,
-            previous,
-            fault,
+            fault: None, // the last step's
+            ..self
         }
     }
 
@@ -196,102 +221,85 @@ impl HiresOutputTimingState {
     fn malformed(self, fault: HiresTimingFault) -> Self
         ensures { result ≡ faulted_by fault self }
     {
-        let counter = self.counter;
-        let field = self.field;
-        let previous = self.previous;
         HiresOutputTimingState {
             state: 0,
-            counter,
-            bits: self.bits,
-            field,
-            previous,
-            fault,
+            fault: Some(fault),
+            ..self
         }
     }
 
     // n bits of the field are read, which make its timing this.
     fn read(self, state: u8, timing: u64, n: u32) -> Self
-        requires { (self.bits ≤ 65535) × (n ≤ 5) }
         ensures { result ≡ read_on state timing n self }
     {
-        let previous = self.previous;
-        let bits = count(self.bits, n);
         HiresOutputTimingState {
             state,
-            counter: self.counter,
-            bits,
+            bits: count(self.bits, n),
             field: Field {
                 timing,
-                unit: self.field.unit,
-                output: self.field.output,
+                ..self.field
             },
-            previous,
-            fault: HiresTimingFault::NoFault,
+            fault: None,
+            ..self
         }
     }
 
     // Waits for the first of five zeros.
+    #[tactic(auto, unfolding(crate::specs::Timing::state0_of))]
     fn state_0(self, bit: bool) -> Self
         ensures { result ≡ state0_of self bit }
     {
-        let field = self.field;
-        let previous = self.previous;
         HiresOutputTimingState {
             state: if bit { 0 } else { 1 },
             counter: 0, // a new lead-in: its field is a first one
-            bits: self.bits,
-            field,
-            previous,
-            fault: HiresTimingFault::NoFault,
+            fault: None,
+            ..self
         }
     }
 
     // Counts the zeros.
+    #[tactic(auto, unfolding(crate::specs::Timing::states1to4_of))]
     fn states_1_to_4(self, bit: bool) -> Self
         requires { self.state ≤ 4 }
         ensures { result ≡ states1to4_of self bit }
     {
-        if bit {
-            self.to(0)
-        } else {
-            self.to(self.state + 1)
-        }
+        self.to(if bit { 0 } else { self.state + 1 })
     }
 
     // Five zeros have passed, or a field has ended: a one starts the next field.
+    #[tactic(auto, unfolding(crate::specs::Timing::state5_of))]
     fn state_5(self, ctx: TimingContext, bit: bool) -> Self
         ensures { result ≡ state5_of self ctx bit }
     {
         if bit {
-            let previous = self.previous;
             return HiresOutputTimingState {
                 state: 6,
-                counter: self.counter,
                 bits: 0,
                 field: Field {
                     timing: 0,
                     unit: ctx.unit,
                     output: ctx.output,
                 },
-                previous,
-                fault: HiresTimingFault::NoFault,
+                fault: None,
+                ..self
             };
         }
-        if self.bits != 0 {
-            self.malformed(HiresTimingFault::ExtraZeroAfterEnd(self.field.unit))
+        self.malformed(if self.bits == 0 {
+            HiresTimingFault::ExtraZeroInField(self.field.unit)
         } else {
-            self.malformed(HiresTimingFault::ExtraZeroInField(self.field.unit))
-        }
+            HiresTimingFault::ExtraZeroAfterEnd(self.field.unit)
+        })
     }
 
     // Inside a field, in a run of zeros: state − 6 of them are read once a one ends the run.
+    #[tactic(auto, unfolding(crate::specs::Timing::states6to10_of))]
     fn states_6_to_10(self, bit: bool) -> Self
-        requires { (6 ≤ self.state) × (self.state ≤ 10) × (self.bits ≤ 65535) }
+        requires { (6 ≤ self.state) × (self.state ≤ 10) }
         ensures { result ≡ states6to10_of self bit }
     {
         let state = self.state;
         if bit {
-            let n = (state - 6) as u32;
+            let n = u32::from(state - 6);
             return self.read(after_one(state, 10), self.field.timing << n, n);
         }
         if state == 10 {
@@ -303,13 +311,14 @@ impl HiresOutputTimingState {
 
     // Inside a field, in a run of a one and zeros: state − 10 bits are read once a one ends the run. Five zeros end the field, and the one
     // before them was no bit.
+    #[tactic(auto, unfolding(crate::specs::Timing::states11to15_of))]
     fn states_11_to_15(self, samples: u64, bit: bool) -> Updated
-        requires { (11 ≤ self.state) × (self.state ≤ 15) × (self.bits ≤ 65535) }
+        requires { (11 ≤ self.state) × (self.state ≤ 15) }
         ensures { result ≡ states11to15_of self samples bit }
     {
         let state = self.state;
         if bit {
-            let n = (state - 10) as u32;
+            let n = u32::from(state - 10);
             return quiet(self.read(after_one(state, 15), with_one(self.field.timing, n), n));
         }
         if state == 15 {
@@ -320,20 +329,18 @@ impl HiresOutputTimingState {
     }
 
     // The field is whole: it is the first and gives the start, or it continues the one before it, or it does not.
+    #[tactic(auto, unfolding(crate::specs::Timing::field_end_of))]
     fn field_end(self, samples: u64) -> Updated
         ensures { result ≡ field_end_of self samples }
     {
-        let field = self.field;
-        let previous = self.previous;
         let counter = raised(self.counter);
         if counter == 1 {
-            let start = stream_start(field, samples);
             return Updated {
                 next: self.ended(1),
-                answer: Answer::Start(start),
+                answer: Ok(Some(stream_start(self.field, samples))),
             };
         }
-        if continues(field, previous, samples) {
+        if continues(self.field, self.previous, samples) {
             quiet(self.ended(counter))
         } else {
             quiet(self.out_of_sequence())
@@ -344,14 +351,12 @@ impl HiresOutputTimingState {
     fn ended(self, counter: u8) -> Self
         ensures { result ≡ ended_at counter self }
     {
-        let field = self.field;
         HiresOutputTimingState {
-            state: 5,
+            state: 5, // which tells by the bit count, that is kept, which 0 is surplus
             counter,
-            bits: self.bits, // kept: state 5 tells by it which 0 is surplus
-            field,
-            previous: field,
-            fault: HiresTimingFault::NoFault,
+            previous: self.field,
+            fault: None,
+            ..self
         }
     }
 
@@ -359,32 +364,28 @@ impl HiresOutputTimingState {
     fn out_of_sequence(self) -> Self
         ensures { result ≡ broken_at self }
     {
-        let field = self.field;
-        let kept = self.previous;
         HiresOutputTimingState {
             state: 5,
             counter: 0, // the next field is a first one
-            bits: self.bits,
-            field,
-            previous: kept,
-            fault: HiresTimingFault::Sequence {
-                timing: field.timing,
-                unit: field.unit,
-                prev_timing: kept.timing,
-                prev_unit: kept.unit,
-            },
+            fault: Some(HiresTimingFault::Sequence {
+                timing: self.field.timing,
+                unit: self.field.unit,
+                prev_timing: self.previous.timing,
+                prev_unit: self.previous.unit,
+            }),
+            ..self
         }
     }
 
     // Feeds one unit's bit, and answers the stream's start where a field ends that is the first since the counter was cleared.
+    #[tactic(auto, unfolding(crate::specs::Timing::updated_of, crate::specs::Timing::step_of, crate::specs::Timing::fits_of))]
     pub fn update(self, ctx: TimingContext, bit: bool) -> Updated
         ensures { result ≡ updated_of self ctx bit }
     {
-        let state = self.state;
-        if counts_fit(self.counter, self.bits) {} else {
+        if !self.counts_fit() {
             return refuse(self);
         }
-        match state {
+        match self.state {
             0 => quiet(self.state_0(bit)),
             1..=4 => quiet(self.states_1_to_4(bit)),
             5 => quiet(self.state_5(ctx, bit)),
@@ -395,24 +396,18 @@ impl HiresOutputTimingState {
     }
 
     // At a branch the bits begin anew. The previous field stays, and no field is held to it before a new first one has replaced it.
+    #[tactic(auto, unfolding(crate::specs::Timing::reset_of, crate::specs::Timing::fits_of))]
     pub fn reset_for_branch(self) -> Updated
         ensures { result ≡ reset_of self }
     {
-        if 15 < self.state {
+        if self.state > 15 || !self.counts_fit() {
             return refuse(self);
         }
-        if counts_fit(self.counter, self.bits) {} else {
-            return refuse(self);
-        }
-        let field = self.field;
-        let before = self.previous;
         quiet(HiresOutputTimingState {
             state: 0,
             counter: 0, // so that the next field is a first one
-            bits: self.bits, // kept, as the field is
-            field,
-            previous: before,
-            fault: HiresTimingFault::NoFault,
+            fault: None,
+            ..self
         })
     }
 }
@@ -423,7 +418,7 @@ fn quiet(next: HiresOutputTimingState) -> Updated
 {
     Updated {
         next,
-        answer: Answer::Nothing,
+        answer: Ok(None),
     }
 }
 
@@ -433,6 +428,6 @@ fn refuse(next: HiresOutputTimingState) -> Updated
 {
     Updated {
         next,
-        answer: Answer::Record,
+        answer: Err(RecordDoesNotFit),
     }
 }

@@ -5,180 +5,209 @@
 mod run;
 mod show;
 
-use run::{Desk, each, fresh, last, ones, silent};
-use show::say;
+use run::Desk;
+use show::Shown;
+use standard_output::Output;
+use std::fmt::{self, Write};
 use timing::{Field, HiresOutputTimingState, HiresTimingFault, TimingContext};
 
-fn p8() {
-    say(b"P8: bits 00000 1111 00000 from unit 0, 40 samples, output timing 1000 at unit 5\n");
-    each(fresh(0, 40, 800), b"00000 1111 00000");
+fn p8(out: &mut impl Write) -> fmt::Result {
+    writeln!(
+        out,
+        "P8: bits 00000 1111 00000 from unit 0, 40 samples, output timing 1000 at unit 5"
+    )?;
+    Desk::fresh(0, 40, 800).each(out, "00000 1111 00000")?;
+    Ok(())
 }
 
-fn form_faults() {
-    say(b"\n000000: before any field there is no unit to name but 0\n");
-    last(fresh(0, 40, 800), b"00000");
-    say(b"00000 1 00000: five 0 right after a field's first 1\n");
-    last(fresh(0, 40, 800), b"00000 1 0000");
-    say(b"00000 1 1 00000 0: a 0 after a field without bits\n");
-    last(fresh(0, 40, 800), b"00000 1 1 00000");
-    say(b"00000 1 1 1 00000 0: a 0 after a field with bits\n");
-    last(fresh(0, 40, 800), b"00000 1 1 1 00000");
+fn form_faults(out: &mut impl Write) -> fmt::Result {
+    let cases = [
+        (
+            "\n000000: before any field there is no unit to name but 0",
+            "00000",
+        ),
+        (
+            "00000 1 00000: five 0 right after a field's first 1",
+            "00000 1 0000",
+        ),
+        (
+            "00000 1 1 00000 0: a 0 after a field without bits",
+            "00000 1 1 00000",
+        ),
+        (
+            "00000 1 1 1 00000 0: a 0 after a field with bits",
+            "00000 1 1 1 00000",
+        ),
+    ];
+    for (title, script) in cases {
+        writeln!(out, "{title}")?;
+        Desk::fresh(0, 40, 800).last(out, script)?;
+    }
+    Ok(())
 }
 
-fn sequence_fault() {
-    say(
-        b"\n00000 1 1 00000 1 1 00000: 280 samples after output timing 65535 timing should have risen by 1\n",
-    );
-    let a = last(fresh(0, 40, 65335), b"00000 1 1 0000");
-    let b = last(a, b"1 1 0000");
-    say(b"the field after is a start again, and the one after that continues it\n");
-    let c = last(b, b"1 1 0000");
-    last(c, b"1 1 0000");
+fn sequence_fault(out: &mut impl Write) -> fmt::Result {
+    writeln!(
+        out,
+        "\n00000 1 1 00000 1 1 00000: 280 samples after output timing 65535 timing should have risen by 1"
+    )?;
+    let desk = Desk::fresh(0, 40, 65335).lasts(out, &["00000 1 1 0000", "1 1 0000"])?;
+    writeln!(
+        out,
+        "the field after is a start again, and the one after that continues it"
+    )?;
+    desk.lasts(out, &["1 1 0000", "1 1 0000"])?;
+    Ok(())
 }
 
-fn at_most_3() {
-    say(b"\nFour fields, each continuing the one before: the counter stops at 3\n");
-    let a = last(fresh(0, 40, 800), b"00000 1 1 0000");
-    let b = last(a, b"1 1 0000");
-    let c = last(b, b"1 1 0000");
-    last(c, b"1 1 0000");
+fn at_most_3(out: &mut impl Write) -> fmt::Result {
+    writeln!(
+        out,
+        "\nFour fields, each continuing the one before: the counter stops at 3"
+    )?;
+    Desk::fresh(0, 40, 800).lasts(out, &["00000 1 1 0000", "1 1 0000", "1 1 0000", "1 1 0000"])?;
+    Ok(())
 }
 
-fn cleared_in_state_0() {
-    say(
-        b"\nThe counter is cleared by a step taken in state 0, not by the fault that leads there; a 1 among the zeros leads there too\n",
-    );
-    let d = last(last(fresh(0, 40, 800), b"00000 1 1 0000"), b"1 1 0000");
-    each(d, b"0 1 0001 0");
+fn cleared_in_state_0(out: &mut impl Write) -> fmt::Result {
+    writeln!(
+        out,
+        "\nThe counter is cleared by a step taken in state 0, not by the fault that leads there; a 1 among the zeros leads there too"
+    )?;
+    Desk::fresh(0, 40, 800)
+        .lasts(out, &["00000 1 1 0000", "1 1 0000"])?
+        .each(out, "0 1 0001 0")?;
+    Ok(())
 }
 
-fn samples_at_the_end() {
-    say(
-        b"\nP8 with 48 samples from the unit that ends the field on: the start is reckoned with 48\n",
-    );
-    let d = silent(fresh(0, 40, 800), b"00000 1111 0000");
-    let timing = d.timing;
-    each(
-        Desk {
-            timing,
-            about: TimingContext {
-                unit: 13,
-                samples: 48,
-                output: 1320,
-            },
-        },
-        b"0",
-    );
+fn samples_at_the_end(out: &mut impl Write) -> fmt::Result {
+    writeln!(
+        out,
+        "\nP8 with 48 samples from the unit that ends the field on: the start is reckoned with 48"
+    )?;
+    let desk = Desk::fresh(0, 40, 800).silent("00000 1111 0000");
+    let about = TimingContext {
+        unit: 13,
+        samples: 48,
+        output: 1320,
+    };
+    Desk { about, ..desk }.each(out, "0")?;
+    Ok(())
 }
 
-fn start_below_zero() {
-    say(b"\nThe start wraps below 0: output timing 100 at unit 5, 200 samples before it\n");
-    last(fresh(0, 40, 65436), b"00000 1 1 0000");
+fn start_below_zero(out: &mut impl Write) -> fmt::Result {
+    writeln!(
+        out,
+        "\nThe start wraps below 0: output timing 100 at unit 5, 200 samples before it"
+    )?;
+    Desk::fresh(0, 40, 65436).last(out, "00000 1 1 0000")?;
+    Ok(())
 }
 
-fn bit_count() {
-    say(
-        b"\nOnes after a field's first 1: after 65536 the bit count is 65535, and after 65537 still\n",
-    );
-    let d = silent(fresh(0, 40, 800), b"00000 1");
-    let e = ones(ones(d, 65536), 1);
-    say(b"The field's end keeps the bit count\n");
-    last(e, b"0000");
+fn bit_count(out: &mut impl Write) -> fmt::Result {
+    writeln!(
+        out,
+        "\nOnes after a field's first 1: after 65536 the bit count is 65535, and after 65537 still"
+    )?;
+    let desk = Desk::fresh(0, 40, 800)
+        .silent("00000 1")
+        .ones(out, 65536)?
+        .ones(out, 1)?;
+    writeln!(out, "The field's end keeps the bit count")?;
+    desk.last(out, "0000")?;
+    Ok(())
 }
 
-fn around_2_16() {
-    say(b"\nTimings 65535, 65536, 65537\n");
-    last(fresh(0, 40, 800), b"00000 1 1111111111111111 1 0000");
-    last(
-        fresh(0, 40, 800),
-        b"00000 1 10000 1 0000 1 0000 1 0000 1 1 0000",
-    );
-    last(
-        fresh(0, 40, 800),
-        b"00000 1 10000 1 0000 1 0000 1 0001 1 0000",
-    );
+// A title, and three scripts, each from a fresh record.
+fn from_fresh(out: &mut impl Write, title: &str, scripts: [&str; 3]) -> fmt::Result {
+    writeln!(out, "{title}")?;
+    for script in scripts {
+        Desk::fresh(0, 40, 800).last(out, script)?;
+    }
+    Ok(())
 }
 
-fn around_2_32() {
-    say(b"\nTimings 2^32 - 1, 2^32, 2^32 + 1: the start takes them modulo 2^32\n");
-    last(
-        fresh(0, 40, 800),
-        b"00000 1 11111111111111111111111111111111 1 0000",
-    );
-    last(
-        fresh(0, 40, 800),
-        b"00000 1 10000 1 0000 1 0000 1 0000 1 0000 1 0000 1 0000 1 0000 1 1 0000",
-    );
-    last(
-        fresh(0, 40, 800),
-        b"00000 1 10000 1 0000 1 0000 1 0000 1 0000 1 0000 1 0000 1 0001 1 0000",
-    );
+fn around_powers_of_2(out: &mut impl Write) -> fmt::Result {
+    from_fresh(
+        out,
+        "\nTimings 65535, 65536, 65537",
+        [
+            "00000 1 1111111111111111 1 0000",
+            "00000 1 10000 1 0000 1 0000 1 0000 1 1 0000",
+            "00000 1 10000 1 0000 1 0000 1 0001 1 0000",
+        ],
+    )?;
+    from_fresh(
+        out,
+        "\nTimings 2^32 - 1, 2^32, 2^32 + 1: the start takes them modulo 2^32",
+        [
+            "00000 1 11111111111111111111111111111111 1 0000",
+            "00000 1 10000 1 0000 1 0000 1 0000 1 0000 1 0000 1 0000 1 0000 1 1 0000",
+            "00000 1 10000 1 0000 1 0000 1 0000 1 0000 1 0000 1 0000 1 0001 1 0000",
+        ],
+    )?;
+    from_fresh(
+        out,
+        "\nTimings 2^64 - 1, 2^64, 2^64 + 1: 64 bits are kept, 64 or 65 counted",
+        [
+            "00000 1 1111111111111111111111111111111111111111111111111111111111111111 1 0000",
+            "00000 1 10000 1 0000 1 0000 1 0000 1 0000 1 0000 1 0000 1 0000 1 0000 1 0000 1 0000 1 0000 1 0000 1 0000 1 0000 1 0000 1 1 0000",
+            "00000 1 10000 1 0000 1 0000 1 0000 1 0000 1 0000 1 0000 1 0000 1 0000 1 0000 1 0000 1 0000 1 0000 1 0000 1 0000 1 0001 1 0000",
+        ],
+    )
 }
 
-fn around_2_64() {
-    say(b"\nTimings 2^64 - 1, 2^64, 2^64 + 1: 64 bits are kept, 64 or 65 counted\n");
-    last(
-        fresh(0, 40, 800),
-        b"00000 1 1111111111111111111111111111111111111111111111111111111111111111 1 0000",
-    );
-    last(
-        fresh(0, 40, 800),
-        b"00000 1 10000 1 0000 1 0000 1 0000 1 0000 1 0000 1 0000 1 0000 1 0000 1 0000 1 0000 1 0000 1 0000 1 0000 1 0000 1 0000 1 1 0000",
-    );
-    last(
-        fresh(0, 40, 800),
-        b"00000 1 10000 1 0000 1 0000 1 0000 1 0000 1 0000 1 0000 1 0000 1 0000 1 0000 1 0000 1 0000 1 0000 1 0000 1 0000 1 0001 1 0000",
-    );
+fn timing_wraps(out: &mut impl Write) -> fmt::Result {
+    writeln!(
+        out,
+        "\nTiming 2^32 - 1, then 0, one more over the wrap, as is due; then 1, where 0 is due"
+    )?;
+    let desk = Desk::fresh(0, 1700, 0).last(
+        out,
+        "00000 1 11111111111111111111111111111111 1 0000",
+    )?;
+    desk.lasts(out, &["1 1 0000", "1 1 1 0000"])?;
+    writeln!(out, "and 1 right after 2^32 - 1, two more where one is due")?;
+    desk.last(out, "1 1 1 0000")?;
+    Ok(())
 }
 
-fn timing_wraps() {
-    say(b"\nTiming 2^32 - 1, then 0, one more over the wrap, as is due; then 1, where 0 is due\n");
-    let d = last(
-        fresh(0, 1700, 0),
-        b"00000 1 11111111111111111111111111111111 1 0000",
-    );
-    let e = last(d, b"1 1 0000");
-    last(e, b"1 1 1 0000");
-    say(b"and 1 right after 2^32 - 1, two more where one is due\n");
-    last(d, b"1 1 1 0000");
+fn elapsed_wraps(out: &mut impl Write) -> fmt::Result {
+    writeln!(
+        out,
+        "\n7 units of 613566756 samples are 2^32 - 4. After output timing 4 that is 0: timing 0 agrees"
+    )?;
+    Desk::fresh(0, 613566756, 37456).lasts(out, &["00000 1 1 0000", "1 1 0000"])?;
+    writeln!(
+        out,
+        "After output timing 3 it is 2^32 - 1, and 65535 is due: timing 0 is a Sequence fault"
+    )?;
+    let desk = Desk::fresh(0, 613566756, 37455);
+    desk.lasts(out, &["00000 1 1 0000", "1 1 0000"])?;
+    writeln!(out, "and timing 65535 agrees")?;
+    desk.lasts(out, &["00000 1 1 0000", "1 1111111111111111 1 0000"])?;
+    Ok(())
 }
 
-fn elapsed_wraps() {
-    say(
-        b"\n7 units of 613566756 samples are 2^32 - 4. After output timing 4 that is 0: timing 0 agrees\n",
-    );
-    let a = last(fresh(0, 613566756, 37456), b"00000 1 1 0000");
-    last(a, b"1 1 0000");
-    say(b"After output timing 3 it is 2^32 - 1, and 65535 is due: timing 0 is a Sequence fault\n");
-    let b = last(fresh(0, 613566756, 37455), b"00000 1 1 0000");
-    last(b, b"1 1 0000");
-    say(b"and timing 65535 agrees\n");
-    let c = last(fresh(0, 613566756, 37455), b"00000 1 1 0000");
-    last(c, b"1 1111111111111111 1 0000");
-}
-
-fn unit_wraps() {
-    say(b"\nUnit numbers over 2^32 and over 2^64 are kept whole and differ by 7 either way\n");
-    let a = last(fresh(4294967288, 40, 800), b"00000 1 1 0000");
-    last(a, b"1 1 0000");
-    let b = last(fresh(18446744073709551608, 40, 800), b"00000 1 1 0000");
-    last(b, b"1 1 0000");
-    say(
-        b"Samples and output timing above 2^32 count modulo 2^32: 2^32 + 40 samples, output timing 2^40 + 1000\n",
-    );
-    let c = silent(fresh(0, 4294967336, 0), b"00000");
-    let timing = c.timing;
-    last(
-        Desk {
-            timing,
-            about: TimingContext {
-                unit: 5,
-                samples: 4294967336,
-                output: 1099511628776,
-            },
-        },
-        b"1 1 1 1 0000",
-    );
+fn unit_wraps(out: &mut impl Write) -> fmt::Result {
+    writeln!(
+        out,
+        "\nUnit numbers over 2^32 and over 2^64 are kept whole and differ by 7 either way"
+    )?;
+    Desk::fresh(4294967288, 40, 800).lasts(out, &["00000 1 1 0000", "1 1 0000"])?;
+    Desk::fresh(18446744073709551608, 40, 800).lasts(out, &["00000 1 1 0000", "1 1 0000"])?;
+    writeln!(
+        out,
+        "Samples and output timing above 2^32 count modulo 2^32: 2^32 + 40 samples, output timing 2^40 + 1000"
+    )?;
+    let desk = Desk::fresh(0, 4294967336, 0).silent("00000");
+    let about = TimingContext {
+        unit: 5,
+        samples: 4294967336,
+        output: 1099511628776,
+    };
+    Desk { about, ..desk }.last(out, "1 1 1 1 0000")?;
+    Ok(())
 }
 
 // A record in any state, in the midst of a sequence of fields.
@@ -197,104 +226,123 @@ fn at_state(state: u8, counter: u8, bits: u32) -> HiresOutputTimingState {
             unit: 3,
             output: 900,
         },
-        fault: HiresTimingFault::Sequence {
+        fault: Some(HiresTimingFault::Sequence {
             timing: 7,
             unit: 5,
             prev_timing: 6,
             prev_unit: 3,
-        },
+        }),
     }
 }
 
-fn stepped(r: HiresOutputTimingState, bit: bool) {
-    show::from(r.state, bit);
-    show::updated(r.update(
-        TimingContext {
-            unit: 9,
-            samples: 40,
-            output: 1160,
-        },
-        bit,
-    ));
+// A bit, by the state it is taken in.
+fn stepped(out: &mut impl Write, r: HiresOutputTimingState, bit: bool) -> fmt::Result {
+    let about = TimingContext {
+        unit: 9,
+        samples: 40,
+        output: 1160,
+    };
+    writeln!(
+        out,
+        "  from {:>5}  bit {}  {}",
+        r.state,
+        u8::from(bit),
+        Shown(r.update(about, bit))
+    )
 }
 
-fn reset(r: HiresOutputTimingState) {
-    show::reset(r.state);
-    show::updated(r.reset_for_branch());
+// A branch reset, by the state it is made in.
+fn reset(out: &mut impl Write, r: HiresOutputTimingState) -> fmt::Result {
+    writeln!(
+        out,
+        "  from {:>5}  reset  {}",
+        r.state,
+        Shown(r.reset_for_branch())
+    )
 }
 
-fn every_state() {
-    say(
-        b"\nEvery state with either bit, after a Sequence fault, which is dropped; the 0 in state 15 finds one of its own\n",
-    );
-    for s in 0u8..16 {
-        stepped(at_state(s, 3, 9), false);
-        stepped(at_state(s, 3, 9), true);
+fn every_state(out: &mut impl Write) -> fmt::Result {
+    writeln!(
+        out,
+        "\nEvery state with either bit, after a Sequence fault, which is dropped; the 0 in state 15 finds one of its own"
+    )?;
+    for state in 0..16 {
+        stepped(out, at_state(state, 3, 9), false)?;
+        stepped(out, at_state(state, 3, 9), true)?;
     }
+    Ok(())
 }
 
-fn reset_in_every_state() {
-    say(b"\nA branch reset in every state: state, counter and fault are set, the rest is kept\n");
-    for s in 0u8..16 {
-        reset(at_state(s, 3, 9));
+fn reset_in_every_state(out: &mut impl Write) -> fmt::Result {
+    writeln!(
+        out,
+        "\nA branch reset in every state: state, counter and fault are set, the rest is kept"
+    )?;
+    for state in 0..16 {
+        reset(out, at_state(state, 3, 9))?;
     }
+    Ok(())
 }
 
-fn refused(r: HiresOutputTimingState) {
-    stepped(r, false);
-    stepped(r, true);
-    reset(r);
+fn refused(out: &mut impl Write, r: HiresOutputTimingState) -> fmt::Result {
+    stepped(out, r, false)?;
+    stepped(out, r, true)?;
+    reset(out, r)
 }
 
-fn unfit() {
-    say(b"\nThe largest record that fits\n");
-    refused(at_state(15, 3, 65535));
-    say(b"\nState above 15, counter above 3, bit count above 65535: refused as 1, unchanged\n");
-    refused(at_state(16, 3, 65535));
-    refused(at_state(15, 4, 65535));
-    refused(at_state(15, 3, 65536));
-    refused(at_state(255, 255, 4294967295));
+fn unfit(out: &mut impl Write) -> fmt::Result {
+    writeln!(out, "\nThe largest record that fits")?;
+    refused(out, at_state(15, 3, 65535))?;
+    writeln!(
+        out,
+        "\nState above 15, counter above 3, bit count above 65535: refused as 1, unchanged"
+    )?;
+    refused(out, at_state(16, 3, 65535))?;
+    refused(out, at_state(15, 4, 65535))?;
+    refused(out, at_state(15, 3, 65536))?;
+    refused(out, at_state(255, 255, 4294967295))
 }
 
-fn after_a_reset() {
-    say(
-        b"\nAfter a reset in the midst of a field the next field is a start, though it doesn't continue the last one\n",
-    );
-    let d = last(fresh(0, 40, 800), b"00000 1 1 0000");
-    let e = last(d, b"1 1 ");
-    let r = e.timing.reset_for_branch();
-    show::reset(e.timing.state);
-    show::updated(r);
-    let timing = r.next;
-    let about = e.about;
-    last(Desk { timing, about }, b"00000 1 1 1 1 0000");
+fn after_a_reset(out: &mut impl Write) -> fmt::Result {
+    writeln!(
+        out,
+        "\nAfter a reset in the midst of a field the next field is a start, though it doesn't continue the last one"
+    )?;
+    let desk = Desk::fresh(0, 40, 800).lasts(out, &["00000 1 1 0000", "1 1 "])?;
+    reset(out, desk.timing)?;
+    let timing = desk.timing.reset_for_branch().next;
+    Desk { timing, ..desk }.last(out, "00000 1 1 1 1 0000")?;
+    Ok(())
 }
 
-fn numbers() {
-    around_2_16();
-    around_2_32();
-    around_2_64();
-    timing_wraps();
-    elapsed_wraps();
-    unit_wraps();
+fn numbers(out: &mut impl Write) -> fmt::Result {
+    around_powers_of_2(out)?;
+    timing_wraps(out)?;
+    elapsed_wraps(out)?;
+    unit_wraps(out)
 }
 
-fn records() {
-    every_state();
-    reset_in_every_state();
-    after_a_reset();
-    unfit();
+fn records(out: &mut impl Write) -> fmt::Result {
+    every_state(out)?;
+    reset_in_every_state(out)?;
+    after_a_reset(out)?;
+    unfit(out)
 }
 
+fn cases(out: &mut impl Write) -> fmt::Result {
+    p8(out)?;
+    form_faults(out)?;
+    sequence_fault(out)?;
+    at_most_3(out)?;
+    cleared_in_state_0(out)?;
+    samples_at_the_end(out)?;
+    start_below_zero(out)?;
+    bit_count(out)?;
+    numbers(out)?;
+    records(out)
+}
+
+// Where standard output can't be written there is nobody to tell, and the program ends well.
 fn main() {
-    p8();
-    form_faults();
-    sequence_fault();
-    at_most_3();
-    cleared_in_state_0();
-    samples_at_the_end();
-    start_below_zero();
-    bit_count();
-    numbers();
-    records();
+    let _ = cases(&mut Output);
 }

@@ -1,6 +1,7 @@
-// Running a script: a record with the next unit, moved on bit by bit.
-use crate::show;
-use timing::{HiresOutputTimingState, TimingContext};
+// Running a script: a record with the next unit, moved on bit by bit. A script is made of 0 and 1, with blanks between them.
+use crate::show::Shown;
+use std::fmt::{self, Write};
+use timing::{HiresOutputTimingState, TimingContext, Updated};
 
 #[derive(Clone, Copy)]
 pub(crate) struct Desk {
@@ -8,75 +9,95 @@ pub(crate) struct Desk {
     pub about: TimingContext,
 }
 
-// A fresh record before a unit.
-pub(crate) fn fresh(unit: u64, samples: u64, output: u64) -> Desk {
-    let timing = HiresOutputTimingState::fresh();
-    Desk {
-        timing,
-        about: TimingContext {
-            unit,
-            samples,
-            output,
-        },
+// The bit that a script's byte stands for.
+fn bit_of(byte: u8) -> Option<bool> {
+    match byte {
+        b'0' => Some(false),
+        b'1' => Some(true),
+        _ => None,
     }
 }
 
 // The unit after: one number up, and as many samples later as a unit has. Output timing wraps at 16 bits.
 fn after(about: TimingContext) -> TimingContext {
     TimingContext {
-        unit: std::num::wrapping_add_u64(about.unit, 1),
-        samples: about.samples,
-        output: std::num::wrapping_add_u64(about.output, about.samples) % 65536,
+        unit: about.unit.wrapping_add(1),
+        output: about.output.wrapping_add(about.samples) % 65536,
+        ..about
     }
 }
 
-// One unit, printed or not.
-fn step(d: Desk, bit: bool, printed: bool) -> Desk {
-    let x = d.timing.update(d.about, bit);
-    if printed {
-        show::unit(d.about.unit, bit);
-        show::updated(x);
-    }
-    let timing = x.next;
-    let about = after(d.about);
-    Desk { timing, about }
-}
-
-// A script of 0 and 1, with blanks between them.
-fn run(d: Desk, script: &[u8], printed: bool) -> Desk {
-    let mut now = d;
-    for i in 0..script.len() {
-        let b = script[i];
-        if b == b'0' {
-            now = step(now, false, printed);
-        }
-        if b == b'1' {
-            now = step(now, true, printed);
+impl Desk {
+    // A fresh record before a unit.
+    pub(crate) fn fresh(unit: u64, samples: u64, output: u64) -> Desk {
+        Desk {
+            timing: HiresOutputTimingState::fresh(),
+            about: TimingContext {
+                unit,
+                samples,
+                output,
+            },
         }
     }
-    now
-}
 
-// A script, every unit printed.
-pub(crate) fn each(d: Desk, script: &[u8]) -> Desk {
-    run(d, script, true)
-}
-
-// A script, no unit printed.
-pub(crate) fn silent(d: Desk, script: &[u8]) -> Desk {
-    run(d, script, false)
-}
-
-// A script and a last 0, which alone is printed.
-pub(crate) fn last(d: Desk, script: &[u8]) -> Desk {
-    step(run(d, script, false), false, true)
-}
-
-// So many ones, of which the last is printed.
-pub(crate) fn ones(d: Desk, n: u64) -> Desk {
-    let mut now = d;
-    for _ in 1..n {
-        now = step(now, true, false);
+    // One unit, and what it came to.
+    fn step(self, bit: bool) -> (Desk, Updated) {
+        let updated = self.timing.update(self.about, bit);
+        let desk = Desk {
+            timing: updated.next,
+            about: after(self.about),
+        };
+        (desk, updated)
     }
-    step(now, true, true)
+
+    // One unit, printed.
+    fn shown(self, out: &mut impl Write, bit: bool) -> Result<Desk, fmt::Error> {
+        let (desk, updated) = self.step(bit);
+        writeln!(
+            out,
+            "  unit {:>5}  bit {}  {}",
+            self.about.unit,
+            u8::from(bit),
+            Shown(updated)
+        )?;
+        Ok(desk)
+    }
+
+    // A script, no unit printed.
+    pub(crate) fn silent(self, script: &str) -> Desk {
+        script
+            .bytes()
+            .filter_map(bit_of)
+            .fold(self, |desk, bit| desk.step(bit).0)
+    }
+
+    // A script, every unit printed.
+    pub(crate) fn each(self, out: &mut impl Write, script: &str) -> Result<Desk, fmt::Error> {
+        let mut desk = self;
+        for bit in script.bytes().filter_map(bit_of) {
+            desk = desk.shown(out, bit)?;
+        }
+        Ok(desk)
+    }
+
+    // A script and a last 0, which alone is printed.
+    pub(crate) fn last(self, out: &mut impl Write, script: &str) -> Result<Desk, fmt::Error> {
+        self.silent(script).shown(out, false)
+    }
+
+    // Scripts, one behind the other, each with a last 0, which alone is printed.
+    pub(crate) fn lasts(self, out: &mut impl Write, scripts: &[&str]) -> Result<Desk, fmt::Error> {
+        let mut desk = self;
+        for script in scripts {
+            desk = desk.last(out, script)?;
+        }
+        Ok(desk)
+    }
+
+    // So many ones, of which the last is printed.
+    pub(crate) fn ones(self, out: &mut impl Write, n: u64) -> Result<Desk, fmt::Error> {
+        (1..n)
+            .fold(self, |desk, _| desk.step(true).0)
+            .shown(out, true)
+    }
 }

@@ -1,25 +1,30 @@
 -- Laws: a record that a call left in the words is taken by the next call as the library left it, so a chain of exported calls is the chain of the
 -- library's; and words that don't fit, however wide, are number 1 and unchanged.
-use Rattle.std.specs.Prelude.{ℕ, ◌<◌, ◌≡◌, refl, Bool, true, false, List, get_or}
+use Rattle.std.specs.Prelude.{ℕ, ◌<◌, ◌≡◌, refl, Bool, true, false, Option, Some, None, Err, List, get_or}
 use Rattle.std.proofs.Common.{lt-ltb}
 use Rattle.laws.specs.Pick.{pick_same}
 use Rattle.timing.specs.declared.TimingContext.{TimingContext}
 use Rattle.timing.specs.declared.HiresTimingFault.{HiresTimingFault}
-use Rattle.timing.specs.declared.HiresTimingFault.TheVariants.{NoFault, ExtraZeroAfterEnd, ExtraZeroInField, InvalidZeroInField, Sequence}
+use Rattle.timing.specs.declared.HiresTimingFault.TheVariants.{ExtraZeroAfterEnd, ExtraZeroInField, InvalidZeroInField, Sequence}
 use Rattle.timing.specs.declared.HiresOutputTimingState.{HiresOutputTimingState}
-use Rattle.timing.specs.declared.Answer.TheVariants.{Record}
 use Rattle.timing.specs.declared.Updated.{Updated}
-use Rattle.timing.specs.Timing.{counts_fit_of, fits_of, updated_of, reset_of}
-use Rattle.timing_exports.specs.Flat.{fault_of, record_of, laid_of, laid_with, words_of}
+use Rattle.timing.specs.Timing.{counts_fit_of, fits_of, updated_of, reset_of, unfit}
+use Rattle.timing_exports.specs.Flat.{fault_of, record_of, fault_words, laid_with, words_of}
 use Rattle.timing_exports.specs.Calls.{left_by}
 
-laid_there_and_back : (r : HiresOutputTimingState) (f : HiresTimingFault) → r.fault ≡ f → record_of (laid_with r f) ≡ r
-unfolding record_of laid_of fault_of
-laid_there_and_back r NoFault e = rw (← e)
-laid_there_and_back r (ExtraZeroAfterEnd unit) e = rw (← e)
-laid_there_and_back r (ExtraZeroInField unit) e = rw (← e)
-laid_there_and_back r (InvalidZeroInField unit) e = rw (← e)
-laid_there_and_back r (Sequence timing unit previous-timing previous-unit) e = rw (← e)
+fault_there_and_back : (f : Option HiresTimingFault)
+    → fault_of (get_or (fault_words f) 0 0) (get_or (fault_words f) 1 0) (get_or (fault_words f) 2 0) (get_or (fault_words f) 3 0) (get_or (fault_words f) 4 0)
+    ≡ f
+unfolding fault_of
+fault_there_and_back None = refl
+fault_there_and_back (Some (ExtraZeroAfterEnd unit)) = refl
+fault_there_and_back (Some (ExtraZeroInField unit)) = refl
+fault_there_and_back (Some (InvalidZeroInField unit)) = refl
+fault_there_and_back (Some (Sequence timing unit previous-timing previous-unit)) = refl
+
+laid_there_and_back : (r : HiresOutputTimingState) (f : Option HiresTimingFault) → r.fault ≡ f → record_of (laid_with r f) ≡ r
+unfolding record_of
+laid_there_and_back r f e = rw (fault_there_and_back f, ← e)
 
 -- a record laid out and read back is the record
 pub record_there_and_back : (r : HiresOutputTimingState) → record_of (words_of r) ≡ r
@@ -51,10 +56,10 @@ module _ (w : List ℕ) where
     unfolding left_by
     left_unchanged u = rw (← e)
 
-    pub update_refused : (ctx : TimingContext) (bit : Bool) → (updated_of (record_of w) ctx bit).answer ≡ Record
+    pub update_refused : (ctx : TimingContext) (bit : Bool) → (updated_of (record_of w) ctx bit).answer ≡ Err unfit
     unfolding updated_of
     update_refused ctx bit = rw (← e)
 
-    pub reset_refused : (reset_of (record_of w)).answer ≡ Record
+    pub reset_refused : (reset_of (record_of w)).answer ≡ Err unfit
     unfolding reset_of
     reset_refused = rw (← e)

@@ -12,115 +12,96 @@ mod single; // one accumulator, one substream
 mod every; // all of them, and what one slot does to the levels
 mod slots; // the rings and the drain
 
-ghost use Rattle.std.specs.Prelude.{◌≡◌, true};
-ghost use Rattle.levels.specs.Numbers.{fits_of, room_of};
-ghost use Rattle.window_rules.specs.Window.{fresh_of, stepped_of, refused_of, pushed_of, restarted_of};
+ghost use Rattle.std.specs.Prelude.{◌≡◌};
+ghost use Rattle.window_rules.specs.Window.{fresh_of, answer_of, pushed_of, restarted_of};
 
 use every::{add_slot, fresh_levels, restart_levels, totals};
 use kinds::SampleTime;
 use levels::numbers::{fits, room, small};
-use levels::{Answer, Contribution};
-use slots::{drain, fresh_rings, write_slot};
-use window_rules::{Pushed, Report, Restarted, Underrun, Window};
+use levels::{Contribution, Refusal};
+use slots::{Slot, drain, fresh_rings, write_slot};
+use window_rules::{Pushed, Report, Restarted, Window};
 
-// A step that is accepted: write the slot, drain, add.
+// Numbers 1, 12 and 13, in this order.
+#[tactic(auto, unfolding(window_rules::specs::Window::answer_of))]
+fn check(window: &Window, contribution: Contribution) -> Result<(), Refusal>
+    ensures { result ≡ answer_of window.now contribution }
+{
+    if !fits(window.levels) {
+        return Err(Refusal::RecordDoesNotFit);
+    }
+    if !small(contribution) {
+        return Err(Refusal::ContributionTooLarge);
+    }
+    if !room(window.levels, contribution) {
+        return Err(Refusal::DepthTooLarge);
+    }
+    Ok(())
+}
+
+// A step in place: write the slot, drain, add. One that is refused changes nothing.
 fn step(
-    window: Window,
+    window: &mut Window,
     playhead: SampleTime,
     removal: SampleTime,
     contribution: Contribution,
-) -> Pushed
-    requires { (fits_of window.levels ≡ true) × (room_of window.levels contribution ≡ true) }
-    ensures { result ≡ stepped_of window playhead removal contribution }
+) -> Result<Report, Refusal>
+    ensures { pushed_of window.old playhead removal contribution ≡ record { window = window.new; answer = result } }
 {
-    let levels = window.levels;
-    let before = window.rings;
-    let rings = write_slot(before, levels.write, removal, contribution);
-    let drained = drain(rings, levels, playhead);
-    let left = drained.levels;
-    let underrun = drained.underrun;
-    let added = add_slot(left, contribution);
-    let depth = added.depth;
-    let depths = totals(depth);
-    let after = Window {
-        rings,
-        levels: added,
+    check(window, contribution)?;
+    let slot = Slot {
+        number: window.levels.write,
     };
-    let report = Report { depths, underrun };
-    Pushed {
-        window: after,
-        report,
-        answer: Answer::Accepted,
-    }
-}
-
-// A step that is refused: the window as it was, and a report of nothing.
-fn refused(window: Window, answer: Answer) -> Pushed
-    ensures { result ≡ refused_of window answer }
-{
-    let depths = [0; 5];
-    let report = Report {
-        depths,
-        underrun: Underrun::Nothing,
-    };
-    Pushed {
-        window,
-        report,
-        answer,
-    }
+    write_slot(&mut window.rings, slot, removal, contribution);
+    let drained = drain(&window.rings, window.levels, playhead);
+    window.levels = add_slot(drained.levels, contribution);
+    Ok(Report {
+        depths: totals(window.levels.depth),
+        underrun: drained.underrun,
+    })
 }
 
 // A window that never held a unit.
+#[tactic(auto, unfolding(window_rules::specs::Window::fresh_of))]
 pub fn fresh() -> Window
     ensures { result ≡ fresh_of }
 {
-    let rings = fresh_rings();
-    let levels = fresh_levels();
-    Window { rings, levels }
+    Window {
+        rings: fresh_rings(),
+        levels: fresh_levels(),
+    }
 }
 
 // Admits a unit and drains every slot that playback has strictly passed. Numbers 1, 12 and 13, in this order, hand the window back
 // as it was.
 pub fn push(
-    window: Window,
+    mut window: Window,
     playhead: SampleTime,
     removal: SampleTime,
     contribution: Contribution,
 ) -> Pushed
     ensures { result ≡ pushed_of window playhead removal contribution }
 {
-    let levels = window.levels;
-    if fits(levels) {} else {
-        return refused(window, Answer::RecordDoesNotFit);
-    }
-    if small(contribution) {} else {
-        return refused(window, Answer::ContributionTooLarge);
-    }
-    if room(levels, contribution) {} else {
-        return refused(window, Answer::DepthTooLarge);
-    }
-    step(window, playhead, removal, contribution)
+    let answer = step(&mut window, playhead, removal, contribution);
+    Pushed { window, answer }
 }
 
 // Drops every unit in flight and starts the window again, keeping the peaks.
+#[tactic(auto, unfolding(window_rules::specs::Window::restarted_of))]
 pub fn restart(window: Window) -> Restarted
     ensures { result ≡ restarted_of window }
 {
-    let levels = window.levels;
-    if fits(levels) {} else {
+    if !fits(window.levels) {
         return Restarted {
             window,
-            answer: Answer::RecordDoesNotFit,
+            answer: Err(Refusal::RecordDoesNotFit),
         };
     }
-    let rings = fresh_rings();
-    let emptied = restart_levels(levels);
-    let after = Window {
-        rings,
-        levels: emptied,
-    };
     Restarted {
-        window: after,
-        answer: Answer::Accepted,
+        window: Window {
+            rings: fresh_rings(),
+            levels: restart_levels(window.levels),
+        },
+        answer: Ok(()),
     }
 }

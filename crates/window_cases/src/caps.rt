@@ -1,89 +1,58 @@
 // The caps: FBA by accumulator, FBB by accumulator and low nibble, and that no high nibble changes one.
-use crate::text::{column, line, number, word};
 use byte_caps::{Cap, fba_cap, fbb_cap};
+use std::fmt::Write;
+use std::{array, fmt};
 
-fn cap(c: Cap) {
-    match c {
-        Cap::Bytes(n) => column(n),
-        Cap::Unchecked => word(b"       none"),
-        Cap::NoSuchAccumulator => word(b"    no such"),
+// A cap in a column of eleven.
+#[derive(Clone, Copy)]
+struct Column(Cap);
+
+impl fmt::Display for Column {
+    fn fmt<W: fmt::Write>(&self, f: &mut fmt::Formatter<W>) -> fmt::Result {
+        match self.0 {
+            Cap::Bytes(bytes) => write!(f, "{bytes:>11}"),
+            Cap::Unchecked => write!(f, "{:>11}", "none"),
+            Cap::NoSuchAccumulator => write!(f, "{:>11}", "no such"),
+        }
     }
 }
 
-fn fba() {
-    word(b"FBA caps, accumulators 0 to 5\n              ");
-    cap(fba_cap(0));
-    cap(fba_cap(1));
-    cap(fba_cap(2));
-    cap(fba_cap(3));
-    cap(fba_cap(4));
-    cap(fba_cap(5));
-    line();
-    line();
-}
-
-fn fbb(info: u8) {
-    word(b"  info ");
-    column(info as u64);
-    cap(fbb_cap(0, info));
-    cap(fbb_cap(1, info));
-    cap(fbb_cap(2, info));
-    cap(fbb_cap(3, info));
-    cap(fbb_cap(4, info));
-    cap(fbb_cap(5, info));
-    line();
-}
-
-// A cap as a number, each kind by itself.
-fn key(c: Cap) -> u64 {
-    match c {
-        Cap::Bytes(n) => n,
-        Cap::Unchecked => 1,
-        Cap::NoSuchAccumulator => 2,
+fn row(out: &mut impl Write, caps: [Cap; 6]) -> fmt::Result {
+    for cap in caps {
+        write!(out, "{}", Column(cap))?;
     }
+    writeln!(out)
 }
 
-fn agrees(accumulator: usize, info: u8) -> bool {
-    key(fbb_cap(accumulator, info)) == key(fbb_cap(accumulator, info % 16))
+fn fba(out: &mut impl Write) -> fmt::Result {
+    write!(out, "FBA caps, accumulators 0 to 5\n              ")?;
+    row(out, array::from_fn(|k| fba_cap(k)))?;
+    writeln!(out)
+}
+
+fn fbb(out: &mut impl Write, info: u8) -> fmt::Result {
+    write!(out, "  info {info:>11}")?;
+    row(out, array::from_fn(|k| fbb_cap(k, info)))
 }
 
 fn agree(info: u8) -> bool {
-    if agrees(0, info) {
-        if agrees(1, info) {
-            if agrees(2, info) {
-                if agrees(3, info) {
-                    return agrees(4, info);
-                }
-            }
-        }
-    }
-    false
+    (0..5).all(|k| fbb_cap(k, info) == fbb_cap(k, info % 16))
 }
 
 // How many of the 256 info bytes have the caps of their low nibble.
-fn agreeing() -> u64 {
-    let mut n: u64 = 0;
-    let mut info: u8 = 255;
-    loop {
-        if agree(info) {
-            n = n.wrapping_add(1);
-        }
-        if info == 0 {
-            return n;
-        }
-        info -= 1;
-    }
+fn agreeing() -> usize {
+    (0..=255).filter(|info| agree(*info)).count()
 }
 
-pub(crate) fn print() {
-    fba();
-    word(b"FBB caps by low nibble, accumulators 0 to 5\n");
-    let mut nibble: u8 = 0;
-    while nibble < 16 {
-        fbb(nibble);
-        nibble += 1;
+pub(crate) fn print(out: &mut impl Write) -> fmt::Result {
+    fba(out)?;
+    writeln!(out, "FBB caps by low nibble, accumulators 0 to 5")?;
+    for nibble in 0..16 {
+        fbb(out, nibble)?;
     }
-    word(b"  info bytes with the caps of their low nibble: ");
-    number(agreeing());
-    line();
+    writeln!(
+        out,
+        "  info bytes with the caps of their low nibble: {}",
+        agreeing()
+    )
 }

@@ -2,418 +2,407 @@
 // numbers 1, 12 and 13, and the caps.
 #![tactic(auto)]
 
-mod text; // words and numbers in columns
 mod caps; // the caps, of every accumulator and info byte
+mod text; // numbers in columns
 
 use kinds::SampleTime;
 use levels::{Contribution, Depth, Levels, Peak, SubstreamDepth};
-use text::{answer, column, line, number, word};
-use window_rules::{Underrun, Window};
+use standard_output::Output;
+use std::fmt;
+use std::fmt::Write;
+use text::{Named, Row, answer};
+use window_rules::{Report, Window};
+
+// One unit, and when it is pushed.
+#[derive(Clone, Copy)]
+struct Arrival {
+    playhead: u64,
+    removal: u64,
+    contribution: Contribution,
+}
+
+fn step(playhead: u64, removal: u64, contribution: Contribution) -> Arrival {
+    Arrival {
+        playhead,
+        removal,
+        contribution,
+    }
+}
 
 // The same bytes for every accumulator and every substream.
 fn even(total: u32, stream: u32, substream: u32) -> Contribution {
-    let totals = [total; 5];
-    let streams = [stream; 5];
-    let substreams = [substream; 4];
     Contribution {
-        total: totals,
-        stream: streams,
-        substream: substreams,
+        total: [total; 5],
+        stream: [stream; 5],
+        substream: [substream; 4],
     }
-}
-
-fn underrun(u: Underrun) {
-    match u {
-        Underrun::Nothing => word(b"-"),
-        Underrun::At(k) => number(k as u64),
-    }
-}
-
-fn five(a: [u64; 5]) {
-    column(a[0]);
-    column(a[1]);
-    column(a[2]);
-    column(a[3]);
-    column(a[4]);
-}
-
-fn four(a: [u64; 4]) {
-    column(a[0]);
-    column(a[1]);
-    column(a[2]);
-    column(a[3]);
 }
 
 // One step and its report, on a line.
-fn push(w: Window, playhead: u64, removal: u64, c: Contribution) -> Window {
-    word(b"  step playhead ");
-    column(playhead);
-    word(b" removal ");
-    column(removal);
-    let pushed = window::push(w, SampleTime(playhead), SampleTime(removal), c);
-    let report = pushed.report;
-    let taken = pushed.answer;
-    answer(taken);
-    word(b" underrun ");
-    let short = report.underrun;
-    underrun(short);
-    word(b" depths");
-    let depths = report.depths;
-    five(depths);
-    let next = pushed.window;
-    let levels = next.levels;
-    held(levels);
-    next
-}
-
-fn held(levels: Levels) {
-    let b = levels.buffered();
-    word(b" held ");
-    number(b.units as u64);
-    line();
-}
-
-fn accumulator(k: u64, d: Depth) {
-    word(b"  accumulator ");
-    number(k);
-    word(b" holds ");
-    column(d.total);
-    word(b" stream ");
-    column(d.stream);
-    line();
-}
-
-fn substream(i: u64, d: SubstreamDepth) {
-    word(b"  substream   ");
-    number(i);
-    word(b" holds ");
-    column(d.bytes);
-    line();
-}
-
-fn peak(k: u64, p: Peak) {
-    word(b"  peak        ");
-    number(k);
-    word(b" total ");
-    column(p.total);
-    word(b" stream ");
-    column(p.stream);
-    word(b" overhead ");
-    column(p.overhead);
-    line();
-}
-
-fn depths(levels: Levels) {
-    accumulator(0, levels.depth[0]);
-    accumulator(1, levels.depth[1]);
-    accumulator(2, levels.depth[2]);
-    accumulator(3, levels.depth[3]);
-    accumulator(4, levels.depth[4]);
-    substream(0, levels.substream[0]);
-    substream(1, levels.substream[1]);
-    substream(2, levels.substream[2]);
-    substream(3, levels.substream[3]);
-}
-
-fn peaks(levels: Levels) {
-    let totals = levels.peaks();
-    word(b"  peaks          ");
-    let t = totals.peaks;
-    five(t);
-    line();
-    let records = levels.peak_records();
-    let p = records.peaks;
-    peak(0, p[0]);
-    peak(1, p[1]);
-    peak(2, p[2]);
-    peak(3, p[3]);
-    peak(4, p[4]);
-    let substreams = levels.substream_peaks();
-    word(b"  substream peaks");
-    let s = substreams.peaks;
-    four(s);
-    line();
-}
-
-// Everything that a window holds.
-fn show(w: Window) {
-    let levels = w.levels;
-    depths(levels);
-    peaks(levels);
-    line();
-}
-
-fn equal_playhead() {
-    word(b"P9: a playhead equal to the removal time drains nothing; one past it drains\n");
-    let a = push(window::fresh(), 0, 5, even(10, 8, 2));
-    let b = push(a, 5, 9, even(20, 15, 3));
-    let c = push(b, 6, 9, even(40, 30, 4));
-    show(c);
-}
-
-fn kept_slots() {
-    word(b"drained slots keep their numbers: the third step meets the first unit again\n");
-    let a = push(window::fresh(), 0, 5, even(10, 8, 2));
-    let b = push(a, 6, 5, even(0, 0, 0));
-    let c = push(b, 7, 100, even(0, 0, 0));
-    show(c);
-}
-
-fn full_ring() {
-    word(b"a fresh window, one step: 128 slots are drained, and no more\n");
-    let a = push(window::fresh(), 1, 0, even(0, 0, 0));
-    show(a);
-}
-
-fn highest() {
-    word(
-        b"two accumulators are short: the higher is named, the unit is drained whole, and the drain stops\n",
+fn push(out: &mut impl Write, window: Window, arrival: Arrival) -> Result<Window, fmt::Error> {
+    let pushed = window::push(
+        window,
+        SampleTime(arrival.playhead),
+        SampleTime(arrival.removal),
+        arrival.contribution,
     );
-    let total = [10, 0, 10, 0, 0];
-    let stream = [4, 0, 4, 0, 0];
-    let substream = [4, 0, 0, 3];
-    let c = Contribution {
-        total,
-        stream,
-        substream,
-    };
-    let a = push(window::fresh(), 0, 5, c);
-    let b = push(a, 6, 5, even(0, 0, 0));
-    let d = push(b, 7, 100, even(1, 1, 1));
-    show(d);
+    let report = pushed.answer.unwrap_or(Report {
+        depths: [0; 5],
+        underrun: None,
+    });
+    writeln!(
+        out,
+        "  step playhead {:>11} removal {:>11} number {:>2} underrun {} depths{} held {}",
+        arrival.playhead,
+        arrival.removal,
+        answer(pushed.answer),
+        Named(report.underrun),
+        Row(&report.depths),
+        held(pushed.window)
+    )?;
+    Ok(pushed.window)
 }
 
-fn overhead() {
-    word(b"a stream part above the total: the overhead of the peak is 0\n");
-    let a = push(window::fresh(), 0, 5, even(3, 8, 2));
-    show(a);
+fn held(window: Window) -> usize {
+    window.levels.buffered().unwrap_or(0)
 }
 
-fn floors() {
-    word(
-        b"stream and substream parts stop at 0: the third step drains the first unit a second time\n",
-    );
-    let a = push(window::fresh(), 0, 5, even(0, 8, 2));
-    let b = push(a, 6, 5, even(0, 0, 0));
-    let c = push(b, 7, 100, even(9, 1, 1));
-    show(c);
-}
-
-// So many units, all held until 1000.
-fn filled(n: u64) -> Window {
-    let mut w = window::fresh();
-    let mut left = n;
-    while 0 < left {
-        let pushed = window::push(w, SampleTime(0), SampleTime(1000), even(1, 1, 1));
-        w = pushed.window;
-        left -= 1;
+fn steps(
+    out: &mut impl Write,
+    mut window: Window,
+    arrivals: &[Arrival],
+) -> Result<Window, fmt::Error> {
+    for arrival in arrivals {
+        window = push(out, window, *arrival)?;
     }
-    w
+    Ok(window)
 }
 
-fn overwritten() {
-    word(b"127 units are held; the 129th overwrites the first and counts as one held\n");
-    let a = filled(127);
-    word(b" ");
-    let levels = a.levels;
-    held(levels);
-    let b = push(a, 0, 1000, even(2, 1, 1));
-    let c = push(b, 0, 1000, even(3, 1, 1));
-    let d = push(c, 0, 1000, even(4, 1, 1));
-    let e = push(d, 1001, 2000, even(5, 1, 1));
-    show(e);
+// Steps from a window on, and everything that the window then holds.
+fn script(out: &mut impl Write, title: &str, window: Window, arrivals: &[Arrival]) -> fmt::Result {
+    writeln!(out, "{title}")?;
+    let last = steps(out, window, arrivals)?;
+    show(out, last.levels)
 }
 
-fn contributions() {
-    word(b"a contribution of 16,384 is taken; one of 16,385, of any kind, is number 12\n");
-    let a = push(window::fresh(), 0, 5, even(16384, 16384, 16384));
-    let b = push(a, 6, 9, even(16385, 0, 0));
-    let c = push(b, 6, 9, even(0, 16385, 0));
-    let d = push(c, 6, 9, even(0, 0, 16385));
-    show(d);
+fn depths(out: &mut impl Write, levels: Levels) -> fmt::Result {
+    for (k, depth) in levels.depth.iter().enumerate() {
+        writeln!(
+            out,
+            "  accumulator {k} holds {:>11} stream {:>11}",
+            depth.total, depth.stream
+        )?;
+    }
+    for (i, depth) in levels.substream.iter().enumerate() {
+        writeln!(out, "  substream   {i} holds {:>11}", depth.bytes)?;
+    }
+    Ok(())
 }
 
-// A window whose depths are given, and whose read slot a playhead of 1 passes.
-fn deep(total: u64, stream: u64, bytes: u64) -> Window {
-    let none = Peak {
+fn peaks(out: &mut impl Write, levels: Levels) -> fmt::Result {
+    let totals = levels.peaks().unwrap_or([0; 5]);
+    writeln!(out, "  peaks          {}", Row(&totals))?;
+    let nothing = Peak {
         total: 0,
         stream: 0,
         overhead: 0,
     };
-    let d = Depth {
-        total,
-        stream,
-        peak: none,
+    let records = levels.peak_records().unwrap_or([nothing; 5]);
+    for (k, peak) in records.iter().enumerate() {
+        writeln!(
+            out,
+            "  peak        {k} total {:>11} stream {:>11} overhead {:>11}",
+            peak.total, peak.stream, peak.overhead
+        )?;
+    }
+    let substreams = levels.substream_peaks().unwrap_or([0; 4]);
+    writeln!(out, "  substream peaks{}", Row(&substreams))
+}
+
+// Everything that a window holds.
+fn show(out: &mut impl Write, levels: Levels) -> fmt::Result {
+    depths(out, levels)?;
+    peaks(out, levels)?;
+    writeln!(out)
+}
+
+fn equal_playhead(out: &mut impl Write) -> fmt::Result {
+    script(
+        out,
+        "P9: a playhead equal to the removal time drains nothing; one past it drains",
+        window::fresh(),
+        &[
+            step(0, 5, even(10, 8, 2)),
+            step(5, 9, even(20, 15, 3)),
+            step(6, 9, even(40, 30, 4)),
+        ],
+    )
+}
+
+fn kept_slots(out: &mut impl Write) -> fmt::Result {
+    script(
+        out,
+        "drained slots keep their numbers: the third step meets the first unit again",
+        window::fresh(),
+        &[
+            step(0, 5, even(10, 8, 2)),
+            step(6, 5, even(0, 0, 0)),
+            step(7, 100, even(0, 0, 0)),
+        ],
+    )
+}
+
+fn full_ring(out: &mut impl Write) -> fmt::Result {
+    script(
+        out,
+        "a fresh window, one step: 128 slots are drained, and no more",
+        window::fresh(),
+        &[step(1, 0, even(0, 0, 0))],
+    )
+}
+
+fn highest(out: &mut impl Write) -> fmt::Result {
+    let two = Contribution {
+        total: [10, 0, 10, 0, 0],
+        stream: [4, 0, 4, 0, 0],
+        substream: [4, 0, 0, 3],
     };
-    let s = SubstreamDepth { bytes, peak: 0 };
-    let depth = [d; 5];
-    let substream = [s; 4];
+    script(
+        out,
+        "two accumulators are short: the higher is named, the unit is drained whole, and the drain stops",
+        window::fresh(),
+        &[
+            step(0, 5, two),
+            step(6, 5, even(0, 0, 0)),
+            step(7, 100, even(1, 1, 1)),
+        ],
+    )
+}
+
+fn overhead(out: &mut impl Write) -> fmt::Result {
+    script(
+        out,
+        "a stream part above the total: the overhead of the peak is 0",
+        window::fresh(),
+        &[step(0, 5, even(3, 8, 2))],
+    )
+}
+
+fn floors(out: &mut impl Write) -> fmt::Result {
+    script(
+        out,
+        "stream and substream parts stop at 0: the third step drains the first unit a second time",
+        window::fresh(),
+        &[
+            step(0, 5, even(0, 8, 2)),
+            step(6, 5, even(0, 0, 0)),
+            step(7, 100, even(9, 1, 1)),
+        ],
+    )
+}
+
+// So many units, all held until 1000.
+fn filled(n: u64) -> Window {
+    let mut window = window::fresh();
+    for _ in 0..n {
+        window = window::push(window, SampleTime(0), SampleTime(1000), even(1, 1, 1)).window;
+    }
+    window
+}
+
+fn overwritten(out: &mut impl Write) -> fmt::Result {
+    writeln!(
+        out,
+        "127 units are held; the 129th overwrites the first and counts as one held"
+    )?;
+    let many = filled(127);
+    writeln!(out, "  held {}", held(many))?;
+    let last = steps(
+        out,
+        many,
+        &[
+            step(0, 1000, even(2, 1, 1)),
+            step(0, 1000, even(3, 1, 1)),
+            step(0, 1000, even(4, 1, 1)),
+            step(1001, 2000, even(5, 1, 1)),
+        ],
+    )?;
+    show(out, last.levels)
+}
+
+fn contributions(out: &mut impl Write) -> fmt::Result {
+    script(
+        out,
+        "a contribution of 16,384 is taken; one of 16,385, of any kind, is number 12",
+        window::fresh(),
+        &[
+            step(0, 5, even(16384, 16384, 16384)),
+            step(6, 9, even(16385, 0, 0)),
+            step(6, 9, even(0, 16385, 0)),
+            step(6, 9, even(0, 0, 16385)),
+        ],
+    )
+}
+
+// A window whose depths are given, and whose read slot a playhead of 1 passes.
+fn deep(total: u64, stream: u64, bytes: u64) -> Window {
+    let peak = Peak {
+        total: 0,
+        stream: 0,
+        overhead: 0,
+    };
     let levels = Levels {
         read: 0,
         write: 0,
-        depth,
-        substream,
+        depth: [Depth {
+            total,
+            stream,
+            peak,
+        }; 5],
+        substream: [SubstreamDepth { bytes, peak: 0 }; 4],
     };
-    let fresh = window::fresh();
-    let rings = fresh.rings;
-    Window { rings, levels }
+    Window {
+        levels,
+        ..window::fresh()
+    }
 }
 
-fn deepest() {
-    word(
-        b"a depth at 4,294,967,295: 0 bytes more are taken, 1 more is number 13, stream and substream depths too\n",
-    );
-    let a = push(
+fn deepest(out: &mut impl Write) -> fmt::Result {
+    script(
+        out,
+        "a depth at 4,294,967,295: 0 bytes more are taken, 1 more is number 13, stream and substream depths too",
         deep(4294967295, 4294967295, 4294967295),
-        0,
-        5,
-        even(0, 0, 0),
-    );
-    let b = push(a, 0, 5, even(1, 0, 0));
-    let c = push(b, 0, 5, even(0, 1, 0));
-    let d = push(c, 0, 5, even(0, 0, 1));
-    show(d);
+        &[
+            step(0, 5, even(0, 0, 0)),
+            step(0, 5, even(1, 0, 0)),
+            step(0, 5, even(0, 1, 0)),
+            step(0, 5, even(0, 0, 1)),
+        ],
+    )
 }
 
-fn before_the_drain() {
-    word(b"number 13 compares the depths before the drain, which would have made room\n");
-    let a = push(deep(4294967200, 0, 0), 0, 5, even(95, 0, 0));
-    let b = push(a, 6, 9, even(1, 0, 0));
-    let c = push(b, 6, 9, even(0, 0, 0));
-    let d = push(c, 6, 9, even(1, 0, 0));
-    show(d);
+fn before_the_drain(out: &mut impl Write) -> fmt::Result {
+    script(
+        out,
+        "number 13 compares the depths before the drain, which would have made room",
+        deep(4294967200, 0, 0),
+        &[
+            step(0, 5, even(95, 0, 0)),
+            step(6, 9, even(1, 0, 0)),
+            step(6, 9, even(0, 0, 0)),
+            step(6, 9, even(1, 0, 0)),
+        ],
+    )
 }
 
 // A fresh window with other slot numbers.
 fn at_slots(read: usize, write: usize) -> Window {
     let fresh = window::fresh();
-    let rings = fresh.rings;
-    let before = fresh.levels;
-    let depth = before.depth;
-    let substream = before.substream;
-    let levels = Levels {
-        read,
-        write,
-        depth,
-        substream,
-    };
-    Window { rings, levels }
-}
-
-// The answer of every call that takes a window, and whether a refused one came back with its slot numbers.
-fn every_call(w: Window) {
-    let pushed = window::push(w, SampleTime(0), SampleTime(0), even(16385, 0, 0));
-    let a = pushed.answer;
-    answer(a);
-    let restarted = window::restart(w);
-    let b = restarted.answer;
-    answer(b);
-    let levels = w.levels;
-    let buffered = levels.buffered();
-    let c = buffered.answer;
-    answer(c);
-    rest_of_calls(levels);
-    let after = pushed.window;
-    slots(after);
-}
-
-fn rest_of_calls(levels: Levels) {
-    let peaks = levels.peaks();
-    let a = peaks.answer;
-    answer(a);
-    let records = levels.peak_records();
-    let b = records.answer;
-    answer(b);
-    let substreams = levels.substream_peaks();
-    let c = substreams.answer;
-    answer(c);
-}
-
-fn slots(w: Window) {
-    let levels = w.levels;
-    word(b" slots ");
-    column(levels.read as u64);
-    column(levels.write as u64);
-    line();
-}
-
-fn misfits() {
-    word(
-        b"records that don't fit: push, restart, buffered, peaks, peak_records and substream_peaks answer number 1 first\n",
-    );
-    word(b"  read 127, write 127 ");
-    every_call(at_slots(127, 127));
-    word(b"  read 128            ");
-    every_call(at_slots(128, 0));
-    word(b"  write 128           ");
-    every_call(at_slots(0, 128));
-    misfit_depths();
-}
-
-fn misfit_depths() {
-    word(b"  depths 4,294,967,295");
-    every_call(deep(4294967295, 4294967295, 4294967295));
-    word(b"  total  4,294,967,296");
-    every_call(deep(4294967296, 0, 0));
-    word(b"  stream 4,294,967,296");
-    every_call(deep(0, 4294967296, 0));
-    word(b"  substr 4,294,967,296");
-    every_call(deep(0, 0, 4294967296));
-    line();
-}
-
-fn order() {
-    word(b"the numbers in their order: 1, 12, 13\n");
-    push(at_slots(128, 0), 0, 5, even(16385, 0, 0));
-    let b = push(deep(4294967295, 0, 0), 0, 5, even(16385, 0, 0));
-    push(b, 0, 5, even(16384, 0, 0));
-    line();
-}
-
-// One byte for accumulator 0 alone.
-fn single() -> Contribution {
-    let total = [1, 0, 0, 0, 0];
-    let stream = [0; 5];
-    let substream = [0; 4];
-    Contribution {
-        total,
-        stream,
-        substream,
+    Window {
+        levels: Levels {
+            read,
+            write,
+            ..fresh.levels
+        },
+        ..fresh
     }
 }
 
-fn restarted() {
-    word(
-        b"restart makes the window new, peaks excepted: no old record is left for the last step to meet\n",
-    );
-    let a = push(window::fresh(), 0, 0, even(0, 0, 0));
-    let b = push(a, 0, 0, single());
-    let r = window::restart(b);
-    word(b"  restart");
-    let answered = r.answer;
-    answer(answered);
-    line();
-    let c = push(r.window, 1, 0, even(0, 0, 0));
-    show(c);
+// The answer of every call that takes a window, and whether a refused one came back with its slot numbers.
+fn every_call(out: &mut impl Write, title: &str, window: Window) -> fmt::Result {
+    let pushed = window::push(window, SampleTime(0), SampleTime(0), even(16385, 0, 0));
+    let levels = window.levels;
+    let numbers = [
+        answer(pushed.answer),
+        answer(window::restart(window).answer),
+        answer(levels.buffered()),
+        answer(levels.peaks()),
+        answer(levels.peak_records()),
+        answer(levels.substream_peaks()),
+    ];
+    write!(out, "  {title}")?;
+    for number in numbers {
+        write!(out, " number {number:>2}")?;
+    }
+    writeln!(
+        out,
+        " slots {:>11}{:>11}",
+        pushed.window.levels.read, pushed.window.levels.write
+    )
 }
 
+fn misfits(out: &mut impl Write) -> fmt::Result {
+    writeln!(
+        out,
+        "records that don't fit: push, restart, buffered, peaks, peak_records and substream_peaks answer number 1 first"
+    )?;
+    every_call(out, "read 127, write 127 ", at_slots(127, 127))?;
+    every_call(out, "read 128            ", at_slots(128, 0))?;
+    every_call(out, "write 128           ", at_slots(0, 128))?;
+    misfit_depths(out)
+}
+
+fn misfit_depths(out: &mut impl Write) -> fmt::Result {
+    every_call(
+        out,
+        "depths 4,294,967,295",
+        deep(4294967295, 4294967295, 4294967295),
+    )?;
+    every_call(out, "total  4,294,967,296", deep(4294967296, 0, 0))?;
+    every_call(out, "stream 4,294,967,296", deep(0, 4294967296, 0))?;
+    every_call(out, "substr 4,294,967,296", deep(0, 0, 4294967296))?;
+    writeln!(out)
+}
+
+fn order(out: &mut impl Write) -> fmt::Result {
+    writeln!(out, "the numbers in their order: 1, 12, 13")?;
+    push(out, at_slots(128, 0), step(0, 5, even(16385, 0, 0)))?;
+    steps(
+        out,
+        deep(4294967295, 0, 0),
+        &[step(0, 5, even(16385, 0, 0)), step(0, 5, even(16384, 0, 0))],
+    )?;
+    writeln!(out)
+}
+
+fn restarted(out: &mut impl Write) -> fmt::Result {
+    writeln!(
+        out,
+        "restart makes the window new, peaks excepted: no old record is left for the last step to meet"
+    )?;
+    let single = Contribution {
+        total: [1, 0, 0, 0, 0],
+        ..even(0, 0, 0)
+    };
+    let before = steps(
+        out,
+        window::fresh(),
+        &[step(0, 0, even(0, 0, 0)), step(0, 0, single)],
+    )?;
+    let restarted = window::restart(before);
+    writeln!(out, "  restart number {:>2}", answer(restarted.answer))?;
+    let last = push(out, restarted.window, step(1, 0, even(0, 0, 0)))?;
+    show(out, last.levels)
+}
+
+fn run(out: &mut impl Write) -> fmt::Result {
+    equal_playhead(out)?;
+    kept_slots(out)?;
+    full_ring(out)?;
+    highest(out)?;
+    overhead(out)?;
+    floors(out)?;
+    overwritten(out)?;
+    contributions(out)?;
+    deepest(out)?;
+    before_the_drain(out)?;
+    misfits(out)?;
+    order(out)?;
+    restarted(out)?;
+    caps::print(out)
+}
+
+// Where standard output can't be written, the rest is left out and the program ends well.
 fn main() {
-    equal_playhead();
-    kept_slots();
-    full_ring();
-    highest();
-    overhead();
-    floors();
-    overwritten();
-    more();
-}
-
-fn more() {
-    contributions();
-    deepest();
-    before_the_drain();
-    misfits();
-    order();
-    restarted();
-    caps::print();
+    run(&mut Output).ok();
 }

@@ -1,42 +1,37 @@
-// Words and numbers on standard output, in columns.
-use levels::Answer;
+// Numbers in columns.
+use levels::Refusal;
+use std::fmt;
 
-const STDOUT: i32 = 1;
+// Each number in a column of eleven.
+#[derive(Clone, Copy)]
+pub(crate) struct Row<'a>(pub(crate) &'a [u64]);
 
-pub(crate) fn word(w: &[u8]) {
-    io::write_all(STDOUT, w);
-}
-
-pub(crate) fn line() {
-    word(b"\n");
-}
-
-pub(crate) fn number(n: u64) {
-    io::print_decimal(STDOUT, n);
-}
-
-// What is left of a text after its first k bytes.
-fn rest(text: &[u8], k: usize) {
-    if k <= text.len() {
-        word(&text[k..]);
+impl fmt::Display for Row<'_> {
+    fn fmt<W: fmt::Write>(&self, f: &mut fmt::Formatter<W>) -> fmt::Result {
+        for number in self.0 {
+            write!(f, "{number:>11}")?;
+        }
+        Ok(())
     }
 }
 
-// A number in a column of eleven.
-pub(crate) fn column(n: u64) {
-    let mut digits = [0u8; 20];
-    let k = io::decimal(n, &mut digits);
-    rest(b"           ", k);
-    number(n);
+// The accumulator that is named, or a dash.
+#[derive(Clone, Copy)]
+pub(crate) struct Named(pub(crate) Option<usize>);
+
+impl fmt::Display for Named {
+    fn fmt<W: fmt::Write>(&self, f: &mut fmt::Formatter<W>) -> fmt::Result {
+        match self.0 {
+            Some(accumulator) => write!(f, "{accumulator}"),
+            None => write!(f, "-"),
+        }
+    }
 }
 
 // An answer's number in document 01, 0 where the call is accepted.
-pub(crate) fn answer(a: Answer) {
-    word(b" number");
-    match a {
-        Answer::Accepted => word(b"  0"),
-        Answer::RecordDoesNotFit => word(b"  1"),
-        Answer::ContributionTooLarge => word(b" 12"),
-        Answer::DepthTooLarge => word(b" 13"),
+pub(crate) fn answer<T: Copy>(answer: Result<T, Refusal>) -> u32 {
+    match answer {
+        Ok(_) => 0,
+        Err(refusal) => u32::from(refusal),
     }
 }

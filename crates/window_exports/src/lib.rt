@@ -15,8 +15,10 @@ ghost use Rattle.window_exports.specs.Flat.{time_of, underrun_flat, pushed_flat,
 
 use byte_caps::{Cap, fba_cap, fbb_cap};
 use kinds::SampleTime;
-use levels::{Answer, Contribution, Peak};
-use window_rules::{Underrun, Window};
+use levels::{Contribution, Peak, Refusal};
+use window_rules::{Pushed, Report, Restarted, Window};
+
+// Stays: a struct for each answer, with a number and a byte beside the value in place of Result and Option: the C interface (include/mirvashen_window.h).
 
 // The accumulator that an underrun names, if `present` says that there is one; zeros elsewhere.
 #[repr(C)]
@@ -85,51 +87,125 @@ pub struct MvCap {
     pub known: u8,
 }
 
-fn number(a: Answer) -> u32
-    ensures { result ≡ number_of a }
+// The number of an answer; 0 where the call is accepted.
+fn number<T: Copy>(answer: Result<T, Refusal>) -> u32
+    ensures { result ≡ number_of answer }
 {
-    match a {
-        Answer::Accepted => 0,
-        Answer::RecordDoesNotFit => 1,
-        Answer::ContributionTooLarge => 12,
-        Answer::DepthTooLarge => 13,
+    match answer {
+        Ok(_) => 0,
+        Err(refusal) => u32::from(refusal),
     }
 }
 
-fn underrun_flat(u: Underrun) -> MvUnderrun
-    ensures { result ≡ underrun_flat u }
-{
-    match u {
-        Underrun::Nothing => MvUnderrun {
-            accumulator: 0,
-            present: 0,
-        },
-        Underrun::At(k) => MvUnderrun {
-            accumulator: k,
-            present: 1,
-        },
+impl From<Option<usize>> for MvUnderrun {
+    ghost from_gives = { λ underrun flat. flat ≡ underrun_flat underrun };
+
+    fn from(underrun: Option<usize>) -> MvUnderrun {
+        MvUnderrun {
+            accumulator: underrun.unwrap_or(0),
+            present: u8::from(underrun.is_some()),
+        }
     }
 }
 
-fn cap_flat(c: Cap) -> MvCap
-    ensures { result ≡ cap_flat c }
-{
-    match c {
-        Cap::Bytes(bytes) => MvCap {
-            bytes,
-            checked: 1,
-            known: 1,
-        },
-        Cap::Unchecked => MvCap {
-            bytes: 0,
-            checked: 0, // none, which is not a cap of 0
-            known: 1,
-        },
-        Cap::NoSuchAccumulator => MvCap {
-            bytes: 0,
-            checked: 0,
-            known: 0,
-        },
+impl From<Pushed> for MvPushed {
+    ghost from_gives = { λ pushed flat. flat ≡ pushed_flat pushed };
+
+    fn from(pushed: Pushed) -> MvPushed {
+        let Report { depths, underrun } = pushed.answer.unwrap_or(Report {
+            depths: [0; 5],
+            underrun: None,
+        });
+        MvPushed {
+            window: pushed.window,
+            depths,
+            underrun: MvUnderrun::from(underrun),
+            number: number(pushed.answer),
+        }
+    }
+}
+
+impl From<Restarted> for MvRestarted {
+    ghost from_gives = { λ restarted flat. flat ≡ restarted_flat restarted };
+
+    fn from(restarted: Restarted) -> MvRestarted {
+        MvRestarted {
+            window: restarted.window,
+            number: number(restarted.answer),
+        }
+    }
+}
+
+impl From<Result<usize, Refusal>> for MvBuffered {
+    ghost from_gives = { λ buffered flat. flat ≡ buffered_flat buffered };
+
+    fn from(buffered: Result<usize, Refusal>) -> MvBuffered {
+        MvBuffered {
+            units: buffered.unwrap_or(0),
+            number: number(buffered),
+        }
+    }
+}
+
+impl From<Result<[u64; 5], Refusal>> for MvPeaks {
+    ghost from_gives = { λ deepest flat. flat ≡ peaks_flat deepest };
+
+    fn from(deepest: Result<[u64; 5], Refusal>) -> MvPeaks {
+        MvPeaks {
+            peaks: deepest.unwrap_or([0; 5]),
+            number: number(deepest),
+        }
+    }
+}
+
+impl From<Result<[Peak; 5], Refusal>> for MvPeakRecords {
+    ghost from_gives = { λ records flat. flat ≡ peak_records_flat records };
+
+    fn from(records: Result<[Peak; 5], Refusal>) -> MvPeakRecords {
+        let nothing = Peak {
+            total: 0,
+            stream: 0,
+            overhead: 0,
+        };
+        MvPeakRecords {
+            peaks: records.unwrap_or([nothing; 5]),
+            number: number(records),
+        }
+    }
+}
+
+impl From<Result<[u64; 4], Refusal>> for MvSubstreamPeaks {
+    ghost from_gives = { λ substreams flat. flat ≡ substream_peaks_flat substreams };
+
+    fn from(substreams: Result<[u64; 4], Refusal>) -> MvSubstreamPeaks {
+        MvSubstreamPeaks {
+            peaks: substreams.unwrap_or([0; 4]),
+            number: number(substreams),
+        }
+    }
+}
+
+impl From<Cap> for MvCap {
+    ghost from_gives = { λ cap flat. flat ≡ cap_flat cap };
+
+    fn from(cap: Cap) -> MvCap {
+        match cap {
+            Cap::Bytes(bytes) => MvCap {
+                bytes,
+                checked: 1,
+                known: 1,
+            },
+            Cap::Unchecked => MvCap {
+                bytes: 0,
+                checked: 0, // none, which is not a cap of 0
+                known: 1,
+            },
+            Cap::NoSuchAccumulator => MvCap {
+                bytes: 0,
+                checked: 0,
+                known: 0,
+            },
+        }
     }
 }
 
@@ -149,100 +225,60 @@ pub fn mv_window_push(
 ) -> MvPushed
     ensures { result ≡ pushed_flat (pushed_of window (time_of playhead) (time_of removal) contribution) }
 {
-    let at = SampleTime(playhead);
-    let leaves = SampleTime(removal);
-    let pushed = window::push(window, at, leaves, contribution);
-    let after = pushed.window;
-    let report = pushed.report;
-    let depths = report.depths;
-    let underrun = report.underrun;
-    let answer = pushed.answer;
-    MvPushed {
-        window: after,
-        depths,
-        underrun: underrun_flat(underrun),
-        number: number(answer),
-    }
+    let pushed = window::push(
+        window,
+        SampleTime(playhead),
+        SampleTime(removal),
+        contribution,
+    );
+    MvPushed::from(pushed)
 }
 
 // Drops every unit in flight and starts the window again, keeping the peaks; number 1.
 pub fn mv_window_restart(window: Window) -> MvRestarted
     ensures { result ≡ restarted_flat (restarted_of window) }
 {
-    let restarted = window::restart(window);
-    let after = restarted.window;
-    let answer = restarted.answer;
-    MvRestarted {
-        window: after,
-        number: number(answer),
-    }
+    MvRestarted::from(window::restart(window))
 }
 
 // Units held in the window; number 1.
 pub fn mv_window_buffered(window: Window) -> MvBuffered
     ensures { result ≡ buffered_flat (buffered_of window.levels) }
 {
-    let levels = window.levels;
-    let buffered = levels.buffered();
-    let answer = buffered.answer;
-    MvBuffered {
-        units: buffered.units,
-        number: number(answer),
-    }
+    MvBuffered::from(window.levels.buffered())
 }
 
 // Deepest each accumulator has been over the stream; number 1.
 pub fn mv_window_peaks(window: Window) -> MvPeaks
     ensures { result ≡ peaks_flat (peaks_of window.levels) }
 {
-    let levels = window.levels;
-    let deepest = levels.peaks();
-    let peaks = deepest.peaks;
-    let answer = deepest.answer;
-    MvPeaks {
-        peaks,
-        number: number(answer),
-    }
+    MvPeaks::from(window.levels.peaks())
 }
 
 // Deepest each accumulator has been, with the stream and overhead parts it held then; number 1.
 pub fn mv_window_peak_records(window: Window) -> MvPeakRecords
     ensures { result ≡ peak_records_flat (peak_records_of window.levels) }
 {
-    let levels = window.levels;
-    let records = levels.peak_records();
-    let peaks = records.peaks;
-    let answer = records.answer;
-    MvPeakRecords {
-        peaks,
-        number: number(answer),
-    }
+    MvPeakRecords::from(window.levels.peak_records())
 }
 
 // Deepest each substream's own bytes have been, with no overhead priced in; number 1.
 pub fn mv_window_substream_peaks(window: Window) -> MvSubstreamPeaks
     ensures { result ≡ substream_peaks_flat (substream_peaks_of window.levels) }
 {
-    let levels = window.levels;
-    let substreams = levels.substream_peaks();
-    let peaks = substreams.peaks;
-    let answer = substreams.answer;
-    MvSubstreamPeaks {
-        peaks,
-        number: number(answer),
-    }
+    MvSubstreamPeaks::from(window.levels.substream_peaks())
 }
 
 // Byte cap of an accumulator for FBA streams.
 pub fn mv_fba_cap(accumulator: usize) -> MvCap
     ensures { result ≡ cap_flat (fba_cap_of accumulator) }
 {
-    cap_flat(fba_cap(accumulator))
+    MvCap::from(fba_cap(accumulator))
 }
 
 // Byte cap of an accumulator for FBB streams, by the low nibble of `substream_info`.
 pub fn mv_fbb_cap(accumulator: usize, substream_info: u8) -> MvCap
     ensures { result ≡ cap_flat (fbb_cap_of accumulator substream_info) }
 {
-    cap_flat(fbb_cap(accumulator, substream_info))
+    MvCap::from(fbb_cap(accumulator, substream_info))
 }

@@ -1,8 +1,8 @@
 -- What holds after any steps and restarts: a window that fits still fits, peaks cover depths, and a peak's parts are those of one moment.
-use Rattle.std.specs.Prelude.{ℕ, ◌+◌, ◌-◌, ◌%◌, ◌≤◌, ◌<◌, ◌≡◌, refl, Bool, List, [], ◌∷◌, leb, ltb, get_or}
+use Rattle.std.specs.Prelude.{ℕ, ◌+◌, ◌-◌, ◌%◌, ◌≤◌, ◌<◌, ◌≡◌, refl, Result, Ok, Err, Bool, List, [], ◌∷◌, leb, ltb, get_or}
 use Rattle.std.proofs.Common.{arith, mod-lt, le-leb, leb-true}
 use Rattle.std.proofs.Math.Bool.{true, false}
-use Rattle.laws.specs.Pick.{pick, both_hold}
+use Rattle.laws.specs.Pick.{pick_holds, both_hold}
 use Rattle.kinds.specs.declared.SampleTime.{SampleTime}
 use Rattle.levels.specs.Index.{every}
 use Rattle.window_rules.specs.Depth.{sampled_of, left_of, added_of, sampled_substream_of, added_substream_of, emptied_of, emptied_substream_of}
@@ -18,8 +18,7 @@ use Rattle.levels.specs.declared.Depth.{Depth}
 use Rattle.levels.specs.declared.SubstreamDepth.{SubstreamDepth}
 use Rattle.levels.specs.declared.Levels.{Levels}
 use Rattle.window_rules.specs.declared.Window.{Window}
-use Rattle.levels.specs.declared.Answer.{Answer}
-use Rattle.levels.specs.declared.Answer.TheVariants.{Accepted, RecordDoesNotFit, ContributionTooLarge, DepthTooLarge}
+use Rattle.levels.specs.declared.Refusal.{Refusal}
 use Rattle.levels.specs.IndexLaws.{every_holds, at_five, at_four}
 use Rattle.levels.specs.NumberLaws.{fits_holds, room_says, depth_room_says, depth_has_room, substream_has_room, room_of_depths, room_of_substreams, read_of_fit}
 use Rattle.window_rules.proofs.KeepLaws.{sampled_covers, each_depth_at, each_substream_at, drain_keeps, drain_room}
@@ -122,13 +121,9 @@ pub fits_always : (calls : List Call) → fits_of (after fresh_of calls).levels 
 fits_always calls =
     always (λ w. fits_of w.levels ≡ true) (λ w playhead removal c p f r. stepped_fits w playhead removal c f r) (λ w p. restarted_fits w) fresh_of calls fresh_fits
 
-substream_by : (t p : ℕ) (b : Bool) → leb t p ≡ b → t ≤ pick b p t
-substream_by t p true e = leb-true t p e
-substream_by t p false e = omega arith
-
 sampled_substream_covers : (t p : ℕ) → (sampled_substream_of t p).bytes ≤ (sampled_substream_of t p).peak
 unfolding sampled_substream_of
-sampled_substream_covers t p = substream_by t p (leb t p) refl
+sampled_substream_covers t p = pick_holds (λ (n : ℕ). t ≤ n) (leb t p) p t (leb-true t p) (λ e. omega arith)
 
 added_covers : (l : Levels) (c : Contribution) → Covered (added_levels_of l c)
 unfolding added_levels_of added_of added_substream_of
@@ -159,28 +154,17 @@ pub peaks_cover : (calls : List Call) → Covered (after fresh_of calls).levels
 peaks_cover calls =
     always (λ w. Covered w.levels) (λ w playhead removal c p f r. stepped_covers w playhead removal c) (λ w p. restarted_covers w) fresh_of calls fresh_covers
 
-moment_by : (t s : ℕ) (p : Peak) (b : Bool) → p.overhead ≡ p.total - p.stream
-    → (pick b p (record { total = t; stream = s; overhead = t - s })).overhead
-    ≡ (pick b p (record { total = t; stream = s; overhead = t - s })).total - (pick b p (record { total = t; stream = s; overhead = t - s })).stream
-moment_by t s p true e = e
-moment_by t s p false e = refl
-
 sampled_moment : (t s : ℕ) (p : Peak) → p.overhead ≡ p.total - p.stream
     → (sampled_of t s p).peak.overhead ≡ (sampled_of t s p).peak.total - (sampled_of t s p).peak.stream
 unfolding sampled_of
-sampled_moment t s p e = moment_by t s p (leb t p.total) e
-
-left_moment_by : (b : Bool) (x y : Depth) → (x.peak.overhead ≡ x.peak.total - x.peak.stream) → (y.peak.overhead ≡ y.peak.total - y.peak.stream)
-    → (pick b x y).peak.overhead ≡ (pick b x y).peak.total - (pick b x y).peak.stream
-left_moment_by true x y p q = p
-left_moment_by false x y p q = q
+sampled_moment t s p e = pick_holds (λ (q : Peak). q.overhead ≡ q.total - q.stream) (leb t p.total) p (record { total = t; stream = s; overhead = t - s }) (λ _. e) (λ _. refl)
 
 left_moment : (d : Depth) (t s : ℕ) → d.peak.overhead ≡ d.peak.total - d.peak.stream
     → (left_of d t s).peak.overhead ≡ (left_of d t s).peak.total - (left_of d t s).peak.stream
 unfolding left_of
 left_moment d t s e =
-    left_moment_by (ltb d.total t) (sampled_of 0 0 d.peak) (sampled_of (d.total - t) (d.stream - s) d.peak) (sampled_moment 0 0 d.peak e)
-    (sampled_moment (d.total - t) (d.stream - s) d.peak e)
+    pick_holds (λ (x : Depth). x.peak.overhead ≡ x.peak.total - x.peak.stream) (ltb d.total t) (sampled_of 0 0 d.peak) (sampled_of (d.total - t) (d.stream - s) d.peak)
+    (λ _. sampled_moment 0 0 d.peak e) (λ _. sampled_moment (d.total - t) (d.stream - s) d.peak e)
 
 drained_moments : (l : Levels) (c : Contribution) → Moments l → Moments (drained_of l c)
 unfolding drained_of Moments
@@ -208,13 +192,11 @@ peaks_of_a_moment calls =
     always (λ w. Moments w.levels) (λ w playhead removal c m f r. stepped_moments w playhead removal c m) restarted_moments fresh_of calls fresh_moments
 
 -- "unchanged": whatever is refused leaves the window as it was
-unchanged_by : (w : Window) (playhead removal : SampleTime) (c : Contribution) (a : Answer) → answer_of w c ≡ a → (number_of a ≡ 0 → ⊥)
+unchanged_by : (w : Window) (playhead removal : SampleTime) (c : Contribution) (a : Result Unit Refusal) → answer_of w c ≡ a → (number_of a ≡ 0 → ⊥)
     → (pushed_of w playhead removal c).window ≡ w
 unfolding pushed_of refused_of
-unchanged_by w playhead removal c Accepted e n = absurd (n refl)
-unchanged_by w playhead removal c RecordDoesNotFit e n = rw e
-unchanged_by w playhead removal c ContributionTooLarge e n = rw e
-unchanged_by w playhead removal c DepthTooLarge e n = rw e
+unchanged_by w playhead removal c (Ok done) e n = absurd (n refl)
+unchanged_by w playhead removal c (Err refusal) e n = rw e
 
 pub refused_unchanged : (w : Window) (playhead removal : SampleTime) (c : Contribution) → (number_of (answer_of w c) ≡ 0 → ⊥) → (pushed_of w playhead removal c).window ≡ w
 refused_unchanged w playhead removal c n = unchanged_by w playhead removal c (answer_of w c) refl n

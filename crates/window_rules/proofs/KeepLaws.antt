@@ -1,9 +1,9 @@
 -- Which accumulator an underrun names, and what a drain keeps: whatever holds before it and is kept by each slot that leaves.
 use Prim.Native.Nat.{ℕ, zero, suc, ◌+◌, ◌-◌, ◌≤◌, ◌<◌}
 use Rattle.std.proofs.Common.{arith, ap, ◌∙◌, subst, le-leb, leb-true, eqb-true}
-use Rattle.std.specs.Prelude.{◌≡◌, refl, Bool, true, false, List, leb, ltb, eqb, get_or}
-use Rattle.std.proofs.lemmas.Bool.{false≢true, eqb-false}
-use Rattle.laws.specs.Pick.{pick, both, both_hold}
+use Rattle.std.specs.Prelude.{◌≡◌, refl, Option, Some, None, Bool, true, false, List, leb, ltb, eqb, get_or}
+use Rattle.std.proofs.lemmas.Bool.{eqb-false}
+use Rattle.laws.specs.Pick.{pick, pick_holds, both, both_hold}
 use Rattle.kinds.specs.declared.SampleTime.{SampleTime}
 use Rattle.window_rules.specs.Index.{highest}
 use Rattle.window_rules.specs.Depth.{sampled_of, left_of, sampled_substream_of, left_substream_of}
@@ -19,8 +19,6 @@ use Rattle.levels.specs.declared.SubstreamDepth.{SubstreamDepth}
 use Rattle.levels.specs.declared.Levels.{Levels}
 use Rattle.window_rules.specs.declared.Rings.{Rings}
 use Rattle.window_rules.specs.declared.Drained.{Drained}
-use Rattle.window_rules.specs.declared.Underrun.{Underrun}
-use Rattle.window_rules.specs.declared.Underrun.TheVariants.{Nothing, At}
 use Rattle.levels.specs.IndexLaws.{every_holds, at_five, at_four}
 use Rattle.levels.specs.NumberLaws.{depth_has_room, substream_has_room, room_of_depths, room_of_substreams}
 
@@ -36,14 +34,6 @@ unfolding each_substream
 each_substream_at rule substream c i h = at_four (λ j. rule (substream_at substream j) (get_or c.substream j 0)) no_substream i h
 
 -- "the report names the highest one": the test holds there, and at none above it
-abbrev named : Underrun → Bool
-named Nothing = false
-named (At k) = true
-
-abbrev place : Underrun → ℕ
-place Nothing = 0
-place (At k) = k
-
 below_top : (n j : ℕ) → j < suc n → (j ≡ n → ⊥) → j < n
 below_top n j h ne = omega arith
 
@@ -51,22 +41,22 @@ top_fails : (n j : ℕ) (p : ℕ → Bool) → p n ≡ false → (j < n → p j 
 top_fails n j p f g h true e = ap p (eqb-true j n e) ∙ f
 top_fails n j p f g h false e = g (below_top n j h (eqb-false j n e))
 
-highest_by : (n : ℕ) (p : ℕ → Bool) (k : ℕ) → (highest n p ≡ At k → (p k ≡ true) × ((j : ℕ) → k < j → j < n → p j ≡ false)) → (b : Bool) → p n ≡ b
-    → pick b (At n) (highest n p) ≡ At k → (p k ≡ true) × ((j : ℕ) → k < j → j < suc n → p j ≡ false)
-highest_by n p k rest true f e = let z : n ≡ k = ap place e in (subst (λ (m : ℕ). p m ≡ true) z f, λ j h i. absurd (omega arith))
+highest_by : (n : ℕ) (p : ℕ → Bool) (k : ℕ) → (highest n p ≡ Some k → (p k ≡ true) × ((j : ℕ) → k < j → j < n → p j ≡ false)) → (b : Bool) → p n ≡ b
+    → pick b (Some n) (highest n p) ≡ Some k → (p k ≡ true) × ((j : ℕ) → k < j → j < suc n → p j ≡ false)
+highest_by n p k rest true f e = let z : n ≡ k = cc in (subst (λ (m : ℕ). p m ≡ true) z f, λ j h i. absurd (omega arith))
 highest_by n p k rest false f e = let w = rest e in (w.0, λ j h i. top_fails n j p f (w.1 j h) i (eqb j n) refl)
 
-pub highest_means : (n : ℕ) (p : ℕ → Bool) (k : ℕ) → highest n p ≡ At k → (p k ≡ true) × ((j : ℕ) → k < j → j < n → p j ≡ false)
+pub highest_means : (n : ℕ) (p : ℕ → Bool) (k : ℕ) → highest n p ≡ Some k → (p k ≡ true) × ((j : ℕ) → k < j → j < n → p j ≡ false)
 unfolding highest
-highest_means zero p k e = absurd (false≢true (ap named e))
+highest_means zero p k e = absurd (cc)
 highest_means (suc n) p k e = highest_by n p k (highest_means n p k) (p n) refl e
 
 -- the last levels of a drain are those it began with, or those after a slot left
-drain_by : (P : Levels → Type 0) (b : Bool) (u : Underrun) (l m : Levels) (next : Drained) → P l → P m → P next.levels
-    → P (pick b (after_slot u m next) (record { levels = l; underrun = Nothing })).levels
+drain_by : (P : Levels → Type 0) (b : Bool) (u : Option ℕ) (l m : Levels) (next : Drained) → P l → P m → P next.levels
+    → P (pick b (after_slot u m next) (record { levels = l; underrun = None })).levels
 drain_by P false u l m next p q r = p
-drain_by P true Nothing l m next p q r = r
-drain_by P true (At k) l m next p q r = q
+drain_by P true None l m next p q r = r
+drain_by P true (Some k) l m next p q r = q
 
 module _ (P : Levels → Type 0) (keep : (l : Levels) (c : Contribution) → P l → P (drained_of l c)) (rings : Rings) (playhead : SampleTime) where
   pub drain_keeps : (n : ℕ) (l : Levels) → P l → P (drain_of n rings playhead l).levels
@@ -77,34 +67,22 @@ module _ (P : Levels → Type 0) (keep : (l : Levels) (c : Contribution) → P l
       drain_by P (passed_at rings playhead l) (underrun_of l.depth c) l (drained_of l c) (drain_of n rings playhead (drained_of l c)) p (keep l c p) (drain_keeps n (drained_of l c) (keep l c p))
 
 -- looked at, a peak covers; "it is looked at after each drained accumulator"
-sampled_by : (t s : ℕ) (p : Peak) (b : Bool) → leb t p.total ≡ b → t ≤ (pick b p (record { total = t; stream = s; overhead = t - s })).total
-sampled_by t s p true e = leb-true t p.total e
-sampled_by t s p false e = omega arith
-
 pub sampled_covers : (t s : ℕ) (p : Peak) → (sampled_of t s p).total ≤ (sampled_of t s p).peak.total
 unfolding sampled_of
-sampled_covers t s p = sampled_by t s p (leb t p.total) refl
-
-left_covers_by : (b : Bool) (x y : Depth) → x.total ≤ x.peak.total → y.total ≤ y.peak.total → (pick b x y).total ≤ (pick b x y).peak.total
-left_covers_by true x y p q = p
-left_covers_by false x y p q = q
+sampled_covers t s p = pick_holds (λ (q : Peak). t ≤ q.total) (leb t p.total) p (record { total = t; stream = s; overhead = t - s }) (leb-true t p.total) (λ e. omega arith)
 
 pub left_covers : (d : Depth) (t s : ℕ) → (left_of d t s).total ≤ (left_of d t s).peak.total
 unfolding left_of
 left_covers d t s =
-    left_covers_by (ltb d.total t) (sampled_of 0 0 d.peak) (sampled_of (d.total - t) (d.stream - s) d.peak) (sampled_covers 0 0 d.peak)
-    (sampled_covers (d.total - t) (d.stream - s) d.peak)
+    pick_holds (λ (x : Depth). x.total ≤ x.peak.total) (ltb d.total t) (sampled_of 0 0 d.peak) (sampled_of (d.total - t) (d.stream - s) d.peak)
+    (λ e. sampled_covers 0 0 d.peak) (λ e. sampled_covers (d.total - t) (d.stream - s) d.peak)
 
 -- a slot that leaves makes no depth larger
-left_by : (b : Bool) (x y t s : ℕ) (p : Peak) → ((pick b (sampled_of 0 0 p) (sampled_of (x - t) (y - s) p)).total ≤ x)
-    × ((pick b (sampled_of 0 0 p) (sampled_of (x - t) (y - s) p)).stream ≤ y)
-unfolding sampled_of
-left_by true x y t s p = (omega arith, omega arith)
-left_by false x y t s p = (omega arith, omega arith)
-
 pub left_lower : (d : Depth) (t s : ℕ) → ((left_of d t s).total ≤ d.total) × ((left_of d t s).stream ≤ d.stream)
-unfolding left_of
-left_lower d t s = left_by (ltb d.total t) d.total d.stream t s d.peak
+unfolding left_of sampled_of
+left_lower d t s =
+    pick_holds (λ (x : Depth). (x.total ≤ d.total) × (x.stream ≤ d.stream)) (ltb d.total t) (sampled_of 0 0 d.peak) (sampled_of (d.total - t) (d.stream - s) d.peak)
+    (λ e. (omega arith, omega arith)) (λ e. (omega arith, omega arith))
 
 pub left_substream_lower : (d : SubstreamDepth) (b : ℕ) → (left_substream_of d b).bytes ≤ d.bytes
 unfolding left_substream_of sampled_substream_of

@@ -1,5 +1,5 @@
 -- All of a window but its rings: what one unit does to it, at every accumulator and substream.
-use Rattle.std.specs.Prelude.{ℕ, ◌+◌, ◌%◌, List, ltb, get_or}
+use Rattle.std.specs.Prelude.{ℕ, ◌+◌, ◌%◌, List, ltb, get_or, Option}
 use Rattle.levels.specs.Index.{five, four}
 use Rattle.levels.specs.Levels.{no_depth, no_substream, depth_at, substream_at}
 use Rattle.window_rules.specs.Index.{highest}
@@ -8,7 +8,6 @@ use Rattle.levels.specs.declared.Contribution.{Contribution}
 use Rattle.levels.specs.declared.Depth.{Depth}
 use Rattle.levels.specs.declared.SubstreamDepth.{SubstreamDepth}
 use Rattle.levels.specs.declared.Levels.{Levels}
-use Rattle.window_rules.specs.declared.Underrun.{Underrun}
 
 -- one rule at each accumulator, with what the unit has for it
 unfoldable pub each_depth : (Depth → ℕ → ℕ → Depth) → List Depth → Contribution → List Depth
@@ -28,7 +27,7 @@ drained_of l c = record {
 }
 
 -- "the report names the highest one"
-unfoldable pub underrun_of : List Depth → Contribution → Underrun
+unfoldable pub underrun_of : List Depth → Contribution → Option ℕ
 underrun_of depth c = highest 5 (λ k. ltb (depth_at depth k).total (get_or c.total k 0))
 
 -- "Then add": the unit joins every accumulator and substream, and the write slot moves on

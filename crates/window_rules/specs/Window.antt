@@ -1,5 +1,5 @@
 -- The window: fresh, a step, restart.
-use Rattle.std.specs.Prelude.{ℕ, zero, suc, Bool, replicate}
+use Rattle.std.specs.Prelude.{ℕ, zero, suc, Bool, Option, Some, None, Result, Ok, Err}
 use Rattle.laws.specs.Pick.{pick}
 use Rattle.kinds.specs.Kinds.{passed_of}
 use Rattle.kinds.specs.declared.SampleTime.{SampleTime}
@@ -14,18 +14,16 @@ use Rattle.window_rules.specs.declared.Window.{Window}
 use Rattle.window_rules.specs.declared.Drained.{Drained}
 use Rattle.window_rules.specs.declared.Pushed.{Pushed}
 use Rattle.window_rules.specs.declared.Restarted.{Restarted}
-use Rattle.window_rules.specs.declared.Underrun.{Underrun}
-use Rattle.window_rules.specs.declared.Underrun.TheVariants.{Nothing, At}
-use Rattle.levels.specs.declared.Answer.{Answer}
-use Rattle.levels.specs.declared.Answer.TheVariants.{Accepted, RecordDoesNotFit, ContributionTooLarge, DepthTooLarge}
+use Rattle.levels.specs.declared.Refusal.{Refusal}
+use Rattle.levels.specs.declared.Refusal.TheVariants.{RecordDoesNotFit, ContributionTooLarge, DepthTooLarge}
 
 unfoldable pub fresh_of : Window
 fresh_of = record { rings = fresh_rings_of; levels = fresh_levels_of }
 
 -- "after a record with an underrun stop": that record is drained whole
-abbrev pub after_slot : Underrun → Levels → Drained → Drained
-after_slot Nothing l next = next
-after_slot (At k) l next = record { levels = l; underrun = At k }
+abbrev pub after_slot : Option ℕ → Levels → Drained → Drained
+after_slot None l next = next
+after_slot (Some k) l next = record { levels = l; underrun = Some k }
 
 -- "the playhead is strictly above the removal time at the read slot"
 abbrev pub passed_at : Rings → SampleTime → Levels → Bool
@@ -33,13 +31,13 @@ passed_at rings playhead l = passed_of playhead (removal_at rings l.read)
 
 -- "while" it is, "drain it, at most" so many
 unfoldable pub drain_of : ℕ → Rings → SampleTime → Levels → Drained
-drain_of zero rings playhead l = record { levels = l; underrun = Nothing }
+drain_of zero rings playhead l = record { levels = l; underrun = None }
 drain_of (suc n) rings playhead l =
     pick (passed_at rings playhead l)
     (after_slot (underrun_of l.depth (contribution_at rings l.read))
     (drained_of l (contribution_at rings l.read))
     (drain_of n rings playhead (drained_of l (contribution_at rings l.read))))
-    (record { levels = l; underrun = Nothing })
+    (record { levels = l; underrun = None })
 
 -- a step: the slot written, then "drain it, at most 128", "Then add"
 abbrev pub step_rings : Window → SampleTime → Contribution → Rings
@@ -54,21 +52,24 @@ step_levels w playhead removal c = added_levels_of (step_drain w playhead remova
 unfoldable pub stepped_of : Window → SampleTime → SampleTime → Contribution → Pushed
 stepped_of w playhead removal c = record {
   window = record { rings = step_rings w removal c; levels = step_levels w playhead removal c };
-  report = record { depths = totals_of (step_levels w playhead removal c).depth; underrun = (step_drain w playhead removal c).underrun };
-  answer = Accepted;
+  answer = Ok (record { depths = totals_of (step_levels w playhead removal c).depth; underrun = (step_drain w playhead removal c).underrun });
 }
 
--- "unchanged", and a report of nothing
-unfoldable pub refused_of : Window → Answer → Pushed
-refused_of w answer = record { window = w; report = record { depths = replicate 5 0; underrun = Nothing }; answer = answer }
+-- "unchanged", and no report
+unfoldable pub refused_of : Window → Refusal → Pushed
+refused_of w refusal = record { window = w; answer = Err refusal }
 
 -- "tested in the order .. 1, 12, 13 for a window step"
-unfoldable pub answer_of : Window → Contribution → Answer
-answer_of w c = pick (fits_of w.levels) (pick (small_of c) (pick (room_of w.levels c) Accepted DepthTooLarge) ContributionTooLarge) RecordDoesNotFit
+unfoldable pub answer_of : Window → Contribution → Result Unit Refusal
+answer_of w c = pick (fits_of w.levels) (pick (small_of c) (pick (room_of w.levels c) (Ok tt) (Err DepthTooLarge)) (Err ContributionTooLarge)) (Err RecordDoesNotFit)
 
 -- a step is taken exactly where it is accepted
+abbrev pub after_answer : Result Unit Refusal → Window → Pushed → Pushed
+after_answer (Ok done) w stepped = stepped
+after_answer (Err refusal) w stepped = refused_of w refusal
+
 unfoldable pub pushed_of : Window → SampleTime → SampleTime → Contribution → Pushed
-pushed_of w playhead removal c = on_accepted (answer_of w c) (stepped_of w playhead removal c) (refused_of w (answer_of w c))
+pushed_of w playhead removal c = after_answer (answer_of w c) w (stepped_of w playhead removal c)
 
 -- "Restart puts the window back as new, peaks excepted"
 abbrev pub restarted_window_of : Window → Window

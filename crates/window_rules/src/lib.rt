@@ -5,77 +5,51 @@
 // `levels`).
 #![tactic(auto)]
 
-use levels::{Answer, Levels};
+use levels::{Levels, Refusal};
 
-// A ring for each accumulator, of its bytes or of their stream part.
+// The units in flight, in rings of 128 slots: slot i of every ring belongs to the same unit. There is a ring of removal times, and one for each
+// accumulator's bytes, each accumulator's stream part and each substream's bytes.
 #[repr(C)]
-#[derive(Clone, Copy)]
-pub struct FiveRings {
-    pub ring0: [u32; 128],
-    pub ring1: [u32; 128],
-    pub ring2: [u32; 128],
-    pub ring3: [u32; 128],
-    pub ring4: [u32; 128],
-}
-
-// A ring for each substream, of its bytes.
-#[repr(C)]
-#[derive(Clone, Copy)]
-pub struct FourRings {
-    pub ring0: [u32; 128],
-    pub ring1: [u32; 128],
-    pub ring2: [u32; 128],
-    pub ring3: [u32; 128],
-}
-
-// The units in flight: slot i of every ring belongs to the same unit.
-#[repr(C)]
-#[derive(Clone, Copy)]
+#[derive(Clone, Copy, Debug, PartialEq, Eq)]
 pub struct Rings {
     pub removal: [u64; 128],
-    pub total: FiveRings,
-    pub stream: FiveRings,
-    pub substream: FourRings,
+    pub total: [[u32; 128]; 5],
+    pub stream: [[u32; 128]; 5],
+    pub substream: [[u32; 128]; 4],
 }
 
 #[repr(C)]
-#[derive(Clone, Copy)]
+#[derive(Clone, Copy, Debug, PartialEq, Eq)]
 pub struct Window {
     pub rings: Rings,
     pub levels: Levels,
 }
 
-// The accumulator that held fewer bytes than the unit leaving it, if any.
-#[derive(Clone, Copy)]
-pub enum Underrun {
-    Nothing,
-    At(usize),
-}
-
-// What a step did to the window: each accumulator's depth with the new unit included.
-#[derive(Clone, Copy)]
+// What a step did to the window: each accumulator's depth with the new unit included, and the accumulator that held fewer bytes than the last unit
+// leaving it, if any: the highest.
+#[derive(Clone, Copy, Debug, PartialEq, Eq)]
 pub struct Report {
     pub depths: [u64; 5],
-    pub underrun: Underrun,
+    pub underrun: Option<usize>,
 }
 
-#[derive(Clone, Copy)]
+// What a step gives back: the window, and the report, or why the step was refused.
+#[derive(Clone, Copy, Debug, PartialEq, Eq)]
 pub struct Pushed {
     pub window: Window,
-    pub report: Report,
-    pub answer: Answer,
+    pub answer: Result<Report, Refusal>,
 }
 
 // What a restart gives back.
-#[derive(Clone, Copy)]
+#[derive(Clone, Copy, Debug, PartialEq, Eq)]
 pub struct Restarted {
     pub window: Window,
-    pub answer: Answer,
+    pub answer: Result<(), Refusal>,
 }
 
 // The levels after a drain, and whether the last record drained left an accumulator short.
-#[derive(Clone, Copy)]
+#[derive(Clone, Copy, Debug, PartialEq, Eq)]
 pub struct Drained {
     pub levels: Levels,
-    pub underrun: Underrun,
+    pub underrun: Option<usize>,
 }

@@ -1,17 +1,11 @@
--- `text::all_hex` looks at one byte a turn. The invariant: the answer is that of the bytes from here on.
-use mathlib.Core.Path.{refl}
-use Rattle.text.proofs.Pairs.{all_passed, one_is_none, one_is_hex}
-use Rattle.std.proofs.Common.{rules}
+-- `text::all_hex` asks `is_ascii_hexdigit` of each byte.
+use Rattle.std.proofs.Common.{rules, ◌∙◌}
+use Rattle.std.specs.Char.{is_ascii_hexdigit}
+use Rattle.std.proofs.lemmas.Iterator.{YieldsList-from_slice}
+use Rattle.std.proofs.lemmas.Iterator.Search.{all_from_yields_List}
+use Rattle.text.proofs.Pairs.{all_is}
 use Rattle.text.proofs.all_hex.Goals as goal
 
-pub loop-i-init : goal.loop-i-init
-loop-i-init c = refl
-
-pub returns-then-digit-gt15 : goal.returns-then-digit-gt15
-returns-then-digit-gt15 c = search (rules, one_is_none)
-
-pub loop-i-preserved : goal.loop-i-preserved
-loop-i-preserved c = search (rules, one_is_hex)
-
 pub returns : goal.returns
-returns c = search (rules, all_passed)
+returns c =
+    all_from_yields_List is_ascii_hexdigit _ _ _ c.all.ensures.ran (YieldsList-from_slice c.args.s.now c.iter.ensures.rest) (λ x b q k. search rules) ∙ all_is c.args.s.now

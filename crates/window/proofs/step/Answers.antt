@@ -1,17 +1,19 @@
--- The slot is written, the drain is the definition's, and what room there was before it is there after it.
-use Rattle.window.proofs.Whole.{stepped, drained_write_fits, drained_has_room}
-use Rattle.levels.specs.NumberLaws.{read_of_fit, write_of_fit}
+-- A step that the tests let through is the definition's, and what room there was before the drain is there after it.
 use Rattle.std.proofs.Common.{rules}
+use Rattle.window.proofs.Whole.{step_refused, step_taken, reads_a_slot, writes_a_slot, drained_has_room}
 use Rattle.window.proofs.step.Goals as goal
 
-pub write_slot-rings-requires : goal.write_slot-rings-requires
-write_slot-rings-requires c = search (rules, write_of_fit)
+pub returns-in_err-check : goal.returns-in_err-check
+returns-in_err-check c = step_refused _ _ c.check.ensures _ _ c.in_err-check.was (search rules)
+
+pub invariant_of-slot : goal.invariant_of-slot
+invariant_of-slot c = record { below = writes_a_slot _ _ c.check.ensures c.in_ok-check.was }
 
 pub drain-drained-requires : goal.drain-drained-requires
-drain-drained-requires c = search (rules, read_of_fit)
+drain-drained-requires c = reads_a_slot _ _ c.check.ensures c.in_ok-check.was
 
-pub add_slot-added-requires : goal.add_slot-added-requires
-add_slot-added-requires c = (search (rules, drained_write_fits), search (rules, drained_has_room))
+pub add_slot-window-requires : goal.add_slot-window-requires
+add_slot-window-requires c = drained_has_room _ _ c.check.ensures c.in_ok-check.was _ _ c.drain-drained.ensures
 
 pub returns : goal.returns
-returns c = search (rules, stepped)
+returns c = step_taken _ _ c.check.ensures _ _ c.in_ok-check.was c.write_slot.ensures c.drain-drained.ensures c.add_slot-window.ensures c.totals.ensures

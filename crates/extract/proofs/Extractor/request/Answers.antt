@@ -7,9 +7,6 @@ use Rattle.extract.proofs.Extractor.request.Goals as goal
 pub request-init : goal.request-init
 request-init c = let a = c.args in going_begins a.self a.buf.now c.requires.fits
 
-pub step-stepped-requires : goal.step-stepped-requires
-step-stepped-requires c = let a = c.args in let l = c.request in step_fit a.self a.buf.now l.stream l.at l.invariant
-
 pub overflow_add-at : goal.overflow_add-at
 overflow_add-at c = omega (arith, let a = c.args in let l = c.request in stays_inside a.self a.buf.now l.stream l.at l.invariant c.step-stepped.ensures)
 
@@ -23,10 +20,10 @@ pub returns-in-Dry : goal.returns-in-Dry
 returns-in-Dry c = let a = c.args in let l = c.request in ends_dry a.self a.buf.now l.stream l.at l.invariant c.step-stepped.ensures (search rules) c.dry.ensures
 
 pub overflow_sub-start : goal.overflow_sub-start
-overflow_sub-start c = let a = c.args in let l = c.request in handed_before a.self a.buf.now l.stream l.at l.invariant c.step-stepped.ensures c.in-Handed.is
+overflow_sub-start c = let a = c.args in let l = c.request in rw c.from.ensures (handed_before a.self a.buf.now l.stream l.at l.invariant c.step-stepped.ensures c.in-Handed.is)
 
 pub returns-in-Handed : goal.returns-in-Handed
-returns-in-Handed c = let a = c.args in let l = c.request in ends_handed a.self a.buf.now l.stream l.at l.invariant c.step-stepped.ensures c.in-Handed.is c.spoken.ensures
+returns-in-Handed c = let a = c.args in let l = c.request in ends_handed a.self a.buf.now l.stream l.at l.invariant c.step-stepped.ensures c.in-Handed.is (rw c.from.ensures at c.spoken.ensures)
 
 pub returns-in-TooShort : goal.returns-in-TooShort
 returns-in-TooShort c = let a = c.args in let l = c.request in ends_short a.self a.buf.now l.stream l.at l.invariant c.step-stepped.ensures c.in-TooShort.is c.spoken-in-TooShort.ensures

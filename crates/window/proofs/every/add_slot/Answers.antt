@@ -1,14 +1,10 @@
--- There is room for every sum; the unit joins every accumulator and substream, and the write slot moves on.
-use Rattle.window.proofs.All.{slot_added}
-use Rattle.levels.specs.NumberLaws.{room_of_depths, room_of_substreams}
 use Rattle.std.proofs.Common.{rules}
+use Rattle.std.proofs.iter.Serving.{serving}
+use Rattle.levels.specs.NumberLaws.{depth_has_room, substream_has_room, room_of_depths, room_of_substreams}
 use Rattle.window.proofs.every.add_slot.Goals as goal
 
-pub add_depths-depth-requires : goal.add_depths-depth-requires
-add_depths-depth-requires c = search (rules, room_of_depths)
+pub from_fn-requires : goal.from_fn-requires
+from_fn-requires c = search (serving, rules, room_of_depths, depth_has_room)
 
-pub add_substreams-substream-requires : goal.add_substreams-substream-requires
-add_substreams-substream-requires c = search (rules, room_of_substreams)
-
-pub returns : goal.returns
-returns c = search (rules, slot_added)
+pub from_fn-requires-2 : goal.from_fn-requires-2
+from_fn-requires-2 c = grind (serving, room_of_substreams, substream_has_room)

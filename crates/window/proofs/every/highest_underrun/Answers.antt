@@ -1,20 +1,16 @@
--- The loop tests from the top, so the first underrun it meets is the highest.
-use mathlib.Core.Path.{refl}
-use Rattle.window.proofs.Index.{highest_end, highest_stop, highest_on}
-use borrow.Author.Tests.{lt-ltb, le-ltb}
+-- The search goes from the top, so the first that it finds is the highest.
+use Rattle.std.proofs.Common.{rules, ◌∙◌, ltb, get_or, sym}
+use Rattle.std.proofs.lemmas.Iterator.Search.{find_from_yields_List}
+use Rattle.std.proofs.lemmas.Iterator.Adapters.{option_map_id}
+use borrow.Author.Tests.{tests}
+use Rattle.levels.specs.Levels.{depth_at}
 use Rattle.window_rules.specs.Levels.{underrun_of}
-use Rattle.std.proofs.Common.{rules}
+use Rattle.window.proofs.Index.{down_from, first_is_highest}
 use Rattle.window.proofs.every.highest_underrun.Goals as goal
 
-pub loop-k-init : goal.loop-k-init
-unfolding underrun_of
-loop-k-init c = (search rules, refl)
-
-pub returns-then-d-contribution : goal.returns-then-d-contribution
-returns-then-d-contribution c = search (rules, highest_stop, lt-ltb, le-ltb)
-
-pub loop-k-preserved : goal.loop-k-preserved
-loop-k-preserved c = (search rules, search (rules, highest_on, lt-ltb, le-ltb))
-
 pub returns : goal.returns
-returns c = search (rules, highest_end)
+unfolding underrun_of
+returns c =
+    sym (option_map_id c.find.result)
+    ∙ find_from_yields_List (λ k. ltb (depth_at c.args.depth k).total (get_or c.args.contribution.total k 0)) _ _ c.find.result c.find.ensures.ran (down_from 5 c.rev.ensures.source) (λ x b q k. search (rules, tests))
+    ∙ first_is_highest _ 5

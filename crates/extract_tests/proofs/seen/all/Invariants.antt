@@ -1,5 +1,0 @@
--- `seen::all` ends: the turns that are left fall.
-use Rattle.extract_tests.proofs.seen.all.Given as goal
-
-abbrev pub decreases-loop-turns : goal.decreases-loop-turns
-decreases-loop-turns l = l.turns

@@ -1,6 +1,0 @@
--- `seen::buffer` is as long as what it repeats: the list law says so, where a search would count.
-use Rattle.laws.specs.Parts.{repeated}
-use Rattle.extract_tests.proofs.seen.buffer.Goals as goal
-
-pub returns : goal.returns
-returns c = repeated 131072

@@ -1,6 +1,0 @@
--- `lines` is as long as what it repeats: the list law says so, where a search would count.
-use Rattle.laws.specs.Parts.{repeated}
-use Rattle.replaying.proofs.lines.Goals as goal
-
-pub returns : goal.returns
-returns c = repeated 262144

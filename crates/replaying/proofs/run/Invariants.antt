@@ -1,5 +1,0 @@
--- `run` ends: the lines are counted down.
-use Rattle.replaying.proofs.run.Given as goal
-
-abbrev pub decreases-loop-turns : goal.decreases-loop-turns
-decreases-loop-turns l = l.turns

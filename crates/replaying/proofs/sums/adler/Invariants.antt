@@ -1,6 +1,0 @@
--- `sums::adler` ends: the measure is what is left of the bytes.
-use Rattle.std.proofs.Common.{◌-◌, length}
-use Rattle.replaying.proofs.sums.adler.Given as goal
-
-abbrev pub decreases-loop-i : goal.decreases-loop-i
-decreases-loop-i l = length l.bytes - l.i
