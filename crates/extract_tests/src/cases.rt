@@ -3,10 +3,11 @@
 ghost use Rattle.std.specs.Prelude.{◌≤◌, length};
 
 use crate::asserts::{Check, Failure};
-use crate::seen::{Data, Reader, Seen, joined, zeros};
+use crate::seen::{Data, Reader, Seen, joined};
 use arrayvec::CapacityError;
 use example_data::{EXAMPLE_DATA, EXAMPLE_DATA_FBB_UNEXTRACTABLE};
 use extract::{Answer, Refusal};
+use std::array;
 
 // A unit of so many bytes?
 fn is_unit_of(answer: Answer, length: u16) -> bool {
@@ -28,15 +29,9 @@ fn push_and_resync(reader: &mut Reader<'_>, piece: &[u8]) -> Result<(), Refusal>
     Ok(())
 }
 
-// The pattern of the first test.
+// The pattern of the first test: 123, and from byte to byte 37 more.
 fn pattern() -> [u8; 120000] {
-    let mut data = zeros();
-    let mut byte = 123u8;
-    for place in &mut data {
-        *place = byte;
-        byte = byte.wrapping_add(37);
-    }
-    data
+    array::from_fn(|i| ((i % 256) as u8).wrapping_mul(37).wrapping_add(123))
 }
 
 pub(crate) fn buf_extract(buf: &mut [u8]) -> Result<(), Failure> {
@@ -136,30 +131,16 @@ fn first_unit(buf: &mut [u8], stream: &[u8]) -> Result<Data, Failure> {
     }
 }
 
-// A unit's first 31 bytes under a length of twice k, then the whole unit.
-//
-// Stays: that there are 31 is said in three contracts, down one chain of calls. A type for it would be made where the chain begins and taken apart here.
-fn under_a_length(major: &[u8], k: u8) -> Result<Data, CapacityError>
-    requires { 31 ≤ length major.now }
-{
-    let mut cut = [0; 31];
-    cut.copy_from_slice(&major[..31]);
-    cut[0] &= 0xF0;
-    cut[1] = k;
-    joined(&[&cut, major])
-}
-
-// Too short a length is spoken, and the unit behind it is found without more bytes.
+// A unit's head under a length of twice k, then the whole unit: too short a length is spoken, and the unit is found without more bytes.
 fn recovers_from_a_length(
     check: &mut Check,
     buf: &mut [u8],
+    head: &[u8],
     major: &[u8],
     k: u8,
-) -> Result<(), Failure>
-    requires { 31 ≤ length major.now }
-{
+) -> Result<(), Failure> {
     let mut reader = Reader::open(buf)?;
-    reader.push(&under_a_length(major, k)?)?;
+    reader.push(&joined(&[head, major])?)?;
     let short = reader.next()?;
     check.holds(matches!(
         short,
@@ -171,7 +152,7 @@ fn recovers_from_a_length(
     check.holds(reader.stream().losses.errors == 1)
 }
 
-// The lengths 0, 2 to 32.
+// The lengths 0, 2 to 32 in a unit's first 31 bytes.
 fn recovers_from_every_length(
     check: &mut Check,
     buf: &mut [u8],
@@ -179,8 +160,12 @@ fn recovers_from_every_length(
 ) -> Result<(), Failure>
     requires { 31 ≤ length major.now }
 {
+    let mut head = [0; 31];
+    head.copy_from_slice(&major[..31]);
+    head[0] &= 0xF0;
     for k in 0..17 {
-        recovers_from_a_length(check, buf, major, k)?;
+        head[1] = k;
+        recovers_from_a_length(check, buf, &head, major, k)?;
     }
     Ok(())
 }
