@@ -1,3 +1,4 @@
+pub mod Named
 pub mod One
 mod PushWays
 mod StepWays

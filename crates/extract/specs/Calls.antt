@@ -1,5 +1,5 @@
 -- What each call answers, and what it leaves of record and buffer: definitions only.
-use Rattle.std.specs.Prelude.{ℕ, ◌+◌, ◌-◌, List, leb, ltb, eqb, length, Result, Ok, Err}
+use Rattle.std.specs.Prelude.{ℕ, ◌+◌, ◌-◌, List, leb, ltb, eqb, length, codes, Result, Ok, Err}
 use Rattle.laws.specs.Pick.{pick}
 use Rattle.machine.specs.Scan as Scan
 use Rattle.machine.specs.Scan.{request, ran_dry, spoke}
@@ -23,6 +23,13 @@ refusal_number Record = 1
 refusal_number Pushes = 2
 refusal_number Total = 3
 refusal_number Room = 4
+
+-- what a refusal prints
+abbrev pub refusal_text : Refusal → List ℕ
+refusal_text Record = codes "the record or the buffer doesn't fit"
+refusal_text Pushes = codes "65,535 pushes are unanswered"
+refusal_text Total = codes "the accepted total would pass 2^48"
+refusal_text Room = codes "the buffer has no room for the piece"
 
 abbrev pub open_number : Result Extractor Refusal → ℕ
 open_number (Ok r) = 0

@@ -3,12 +3,12 @@
 // buffer).
 #![tactic(auto)]
 
-ghost use Rattle.std.specs.Prelude.{◌≡◌, ◌+◌, ◌<◌, leb, eqb, length};
+ghost use Rattle.std.specs.Prelude.{◌≡◌, ◌+◌, ◌<◌, Some, leb, eqb, length};
 ghost use Rattle.machine.specs.Scan.{request as requestOf};
 ghost use Rattle.rules.specs.Request.{reader};
 ghost use Rattle.extract.specs.Record.{room_fits, record_fits, fits_of, unread};
 ghost use Rattle.extract.specs.Fits.{Fits};
-ghost use Rattle.extract.specs.Calls.{refusal_number, opened_of, pushed_on, pushed_of, buffer_of, left_at, dry_at, spoken_at, answered_of, asked_of};
+ghost use Rattle.extract.specs.Calls.{refusal_number, refusal_text, opened_of, pushed_on, pushed_of, buffer_of, left_at, dry_at, spoken_at, answered_of, asked_of};
 
 mod step;
 
@@ -55,12 +55,14 @@ impl From<Refusal> for u8 {
 }
 
 impl fmt::Display for Refusal {
+    ghost output = { λ refusal. Some (refusal_text refusal) };
+
     fn fmt<W: fmt::Write>(&self, f: &mut fmt::Formatter<W>) -> fmt::Result {
-        match self {
-            Refusal::Record => write!(f, "the record or the buffer doesn't fit"),
-            Refusal::Pushes => write!(f, "65,535 pushes are unanswered"),
-            Refusal::Total => write!(f, "the accepted total would pass 2^48"),
-            Refusal::Room => write!(f, "the buffer has no room for the piece"),
+        match *self {
+            Refusal::Record => f.write_str("the record or the buffer doesn't fit"),
+            Refusal::Pushes => f.write_str("65,535 pushes are unanswered"),
+            Refusal::Total => f.write_str("the accepted total would pass 2^48"),
+            Refusal::Room => f.write_str("the buffer has no room for the piece"),
         }
     }
 }
@@ -256,7 +258,7 @@ impl Extractor {
             at += stepped.eaten;
             stream = stepped.stream;
             match stepped.outcome {
-                Outcome::Quiet => {}
+                Outcome::Quiet => continue 'request,
                 Outcome::Dry => return self.dry(at, stream),
                 Outcome::Handed(unit) => {
                     let start = at - usize::from(unit.length);

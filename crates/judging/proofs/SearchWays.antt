@@ -1,5 +1,5 @@
 -- What each way out of the search's functions shows.
-use Rattle.std.specs.Prelude.{Err, None, Ok, Option, Result, Some, MatchOption}
+use Rattle.std.specs.Prelude.{Err, None, Ok, Option, Result, Some}
 use Prim.Native.Nat.{ℕ, zero, suc, ◌+◌, ◌-◌, ◌*◌, ◌/◌, ◌%◌, ◌≤◌, ◌<◌}
 use native.Mathlib.Omega.{arith}
 use mathlib.Core.Path.{◌≡◌, refl, sym, ap, ap₂, ◌∙◌}
@@ -12,7 +12,7 @@ use lib.ListN.{length, take, drop, length-take, length-drop}
 use lib.Seq.{get_or-take}
 use borrow.Author.Tests.{eq-eqb, ne_eqb, le-leb, lt-leb, lt-ltb, le-ltb, leb-true, leb-false}
 use Rattle.laws.specs.Parts.{byte_at, part, part_part}
-use Rattle.laws.specs.First.{first_unique, first_nowhere}
+use Rattle.laws.specs.First.{Place, At, Nowhere, first_from, scan_end, scan_here, scan_later}
 use Rattle.laws.specs.Words.{word}
 use Rattle.machine.specs.Ask.{Ask, either, first, ◌>>=◌, Eat, eat, ask, decide}
 use Rattle.machine.proofs.AskLaws.{ask_done, ask_byte, ask_byte_missing, ask_front, ask_front_missing, ask_true, ask_false, then_ask, ask_then, decide_made, decide_unasked}
@@ -25,15 +25,23 @@ use Rattle.rules.specs.declared.Verdict.{Verdict}
 use Rattle.rules.specs.declared.Verdict.TheVariants.{Lock, Short, Failed}
 use Rattle.rules.specs.Search.{candidate_at, find, kept, stamp_at, sync_length, unit_length, checks, candidate}
 use Rattle.rules.proofs.BoundLaws.{sync_length_bounded}
-use Rattle.judging.specs.Means.{found_of, length_of, SyncIs}
+use Rattle.judging.specs.Means.{length_of, SyncIs}
 
--- the scan: a place that passes, and before which none does, is the first
-pub found_by : (u : List ℕ) {n : ℕ} → n ≡ length u - 7 → (r : Option ℕ)
-    → MatchOption r ((k : ℕ) → 0 ≤ k → k < n → candidate_at u k ≡ false) (λ i. (0 ≤ i) × (i < n) × (candidate_at u i ≡ true) × ((k : ℕ) → 0 ≤ k → k < i → candidate_at u k ≡ false))
-    → found_of r ≡ find u
+-- the scan: the first of all places is the first of those from i on
+module _ (p : ℕ → Bool) (places i : ℕ) {x : Place} (same : x ≡ first_from p i (places - i)) where
+  pub none_left : places ≤ i → Nowhere ≡ x
+  none_left h = sym (same ∙ scan_end p i places h)
+
+  module _ (h : i < places) {b : Bool} (eb : b ≡ p i) where
+    pub found_here : b ≡ true → At i ≡ x
+    found_here t = sym (same ∙ scan_here p i places h (sym eb ∙ t))
+
+    pub found_later : b ≡ false → x ≡ first_from p (i + 1) (places - (i + 1))
+    found_later f = same ∙ scan_later p i places h (sym eb ∙ f)
+
+pub find_begins : (u : List ℕ) → find u ≡ first_from (candidate_at u) 0 (length u - 7 - 0)
 unfolding find
-found_by u e None h = sym (first_nowhere (candidate_at u) (length u - 7) 0 (λ j l m. h j l (omega arith)))
-found_by u e (Some i) h = sym (first_unique (candidate_at u) (length u - 7) 0 i (record { from = h.0; within = omega arith; passes = h.2; none_before = h.3 }))
+find_begins u = ap (first_from (candidate_at u) 0) (omega arith)
 
 -- a waiting timestamp
 pub kept_gone : (n : ℕ) (w : Option Timestamp) → (n ≡ 0 → ⊥) → None ≡ kept n w

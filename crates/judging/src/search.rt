@@ -28,11 +28,18 @@ fn candidate_at(u: &[u8], i: usize) -> bool
         && (u[i + 7] == 0xBA || u[i + 7] == 0xBB)
 }
 
-// The first candidate's place; the scan stops at the first match.
+// The first candidate's place; the scan stops at the first match and yields its place.
 pub fn find(u: &[u8]) -> Option<usize>
     ensures { found_of result ≡ findIn u.now }
 {
-    (0..u.len().saturating_sub(7)).find(|i| candidate_at(u, *i))
+    let mut place = None;
+    for i in 0..u.len().saturating_sub(7) {
+        if candidate_at(u, i) {
+            place = Some(i);
+            break;
+        }
+    }
+    place
 }
 
 // Consuming any byte drops a waiting timestamp.
@@ -52,7 +59,10 @@ pub fn stamp_at(seen: bool, n: usize, u: &[u8], waiting: Option<Timestamp>) -> O
         return kept(n, waiting);
     }
     let before = u.get(n - 16..n)?; // fewer than 16 bytes are no timestamp
-    Timestamp::from_bytes(before).ok()
+    let Ok(timestamp) = Timestamp::from_bytes(before) else {
+        return None;
+    };
+    Some(timestamp)
 }
 
 // A sync's length; only the bytes that the rule reads are waited for.

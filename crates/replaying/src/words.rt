@@ -19,9 +19,13 @@ impl<'a> Iterator for Words<'a> {
 
     fn next(&mut self) -> Option<&'a [u8]> {
         let line = self.0;
-        let at = text::next_word(line, 0, line.len());
-        self.0 = &line[at.end..];
-        if at.is_empty() { None } else { Some(&line[at]) }
+        let word = text::next_word(line, 0, line.len());
+        self.0 = &line[word.to..];
+        if word.from == word.to {
+            None
+        } else {
+            Some(&line[word.from..word.to])
+        }
     }
 }
 

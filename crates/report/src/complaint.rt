@@ -30,6 +30,23 @@ impl From<Failure> for Cut {
     }
 }
 
+// A writer that is handed each part of a text, also behind a part that it didn't take: where standard error takes no words there is nobody to tell.
+#[derive(Drop)]
+struct Tried<'a, W> {
+    to: &'a mut W,
+}
+
+impl<W: Write> Write for Tried<'_, W> {
+    fn write(&mut self, buf: &[u8]) -> io::Result<usize> {
+        let _ = self.to.write_all(buf);
+        Ok(buf.len())
+    }
+
+    fn flush(&mut self) -> io::Result<()> {
+        Ok(())
+    }
+}
+
 // Why there is no END line.
 #[derive(Clone, Copy)]
 pub(crate) enum Complaint<'a> {
@@ -45,6 +62,7 @@ impl Complaint<'_> {
     // Says what went wrong, and what to do.
     // Stays: no `Display`, which takes text alone: a name or a word is said byte for byte as it was given, and these words may not change.
     pub(crate) fn tell<W: Write>(self, to: &mut W) -> io::Result<()> {
+        let to = &mut Tried { to };
         match self {
             Complaint::TooManyWords => {
                 writeln!(to, "report: too many words: report [FILE [PIECE]]")

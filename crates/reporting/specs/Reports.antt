@@ -1,14 +1,19 @@
 -- What becomes of a piece where every line is written: definitions only.
-use Rattle.std.specs.Prelude.{ℕ, zero, suc, ◌≡◌, List, length, Result, Ok, Err}
+use Rattle.std.specs.Prelude.{ℕ, zero, suc, ◌≡◌, List, length, codes, Result, Ok, Err}
 use Rattle.extract.specs.declared.Extractor.{Extractor}
 use Rattle.extract.specs.declared.Refusal.{Refusal}
 use Rattle.extract.specs.declared.Refusal.TheVariants.{Record}
-use Rattle.extract.specs.Calls.{pushed_of, buffer_of}
+use Rattle.extract.specs.Calls.{refusal_text, pushed_of, buffer_of}
 use Rattle.lines.specs.Gather.{gathered_of}
 use Rattle.lines.specs.declared.Ended.{Ended}
 use Rattle.lines.specs.declared.Ended.TheVariants.{Dry, Full}
 use Rattle.reporting.specs.declared.Failure.{Failure}
 use Rattle.reporting.specs.declared.Failure.TheVariants.{Refused, Unwritten}
+
+-- what a report that ends early prints: the words of the refusal, or that a line could not be written
+abbrev pub text_of : Failure → List ℕ
+text_of (Refused e) = refusal_text e
+text_of Unwritten = codes "a line could not be written"
 
 -- how a report goes on: with its reader, or not at all
 abbrev pub Reported : Type 0

@@ -5,13 +5,14 @@
 // line that could not be written.
 #![tactic(auto)]
 
-ghost use Rattle.std.specs.Prelude.{◌≡◌};
+ghost use Rattle.std.specs.Prelude.{◌≡◌, Some};
 ghost use Rattle.extract.specs.Calls.{buffer_of};
-ghost use Rattle.reporting.specs.Reports.{Written, wrote_of, piece_of};
+ghost use Rattle.reporting.specs.Reports.{text_of, Written, wrote_of, piece_of};
 ghost use Rattle.reporting.specs.declared.Failure.TheVariants.{Refused};
 
 use extract::{Extractor, Refusal};
 use lines::{Ended, gather, put_end};
+use standard_output::FileNumber;
 use std::error::Error;
 use std::fmt;
 use std::io::Write;
@@ -32,10 +33,12 @@ impl From<Refusal> for Failure {
 }
 
 impl fmt::Display for Failure {
+    ghost output = { λ failure. Some (text_of failure) };
+
     fn fmt<W: fmt::Write>(&self, f: &mut fmt::Formatter<W>) -> fmt::Result {
-        match self {
+        match *self {
             Failure::Refused(refusal) => write!(f, "{refusal}"),
-            Failure::Unwritten => write!(f, "a line could not be written"),
+            Failure::Unwritten => f.write_str("a line could not be written"),
         }
     }
 }
@@ -114,4 +117,41 @@ pub fn report_bytes<W: Write>(
         reader = report_piece(reader, buf, piece, out, to)?;
     }
     report_end(reader, out, to)
+}
+
+// `report_piece`, to a file by its number.
+pub fn report_piece_to_file(
+    reader: Extractor,
+    buf: &mut [u8],
+    piece: &[u8],
+    out: &mut [u8; 65536],
+    fd: i32,
+) -> Result<Extractor, Failure>
+    ensures says { Written result (piece_of reader buf.old piece.now out.old) }
+    ensures holds { buf.new ≡ buffer_of reader buf.old piece.now }
+{
+    report_piece(reader, buf, piece, out, &mut FileNumber(fd))
+}
+
+// `report_end`, to a file by its number.
+pub fn report_end_to_file(
+    reader: Extractor,
+    out: &mut [u8; 65536],
+    fd: i32,
+) -> Result<Extractor, Failure>
+    ensures { Written result (Ok reader) }
+{
+    report_end(reader, out, &mut FileNumber(fd))
+}
+
+// `report_bytes`, to a file by its number.
+pub fn report_bytes_to_file(
+    reader: Extractor,
+    buf: &mut [u8],
+    bytes: &[u8],
+    size: usize,
+    out: &mut [u8; 65536],
+    fd: i32,
+) -> Result<Extractor, Failure> {
+    report_bytes(reader, buf, bytes, size, out, &mut FileNumber(fd))
 }

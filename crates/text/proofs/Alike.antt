@@ -1,5 +1,5 @@
 -- The digits of the rules are those of `char::to_digit`: the same value, or none in either.
-use Rattle.std.proofs.Common.{◌≡◌, ℕ, ◌+◌, ◌*◌, ◌≤◌, ◌<◌, min, Bool, true, false, ltb, List, [], ◌∷◌, refl, arith}
+use Rattle.std.proofs.Common.{◌≡◌, ℕ, ◌+◌, ◌*◌, ◌/◌, ◌%◌, ◌≤◌, ◌<◌, min, Bool, true, false, ltb, List, [], ◌∷◌, refl, arith}
 use borrow.Author.Tests.{le-ltb, ltb-true, ltb-false}
 use Rattle.std.proofs.lemmas.Bool.Decides.{nat_tests}
 use Rattle.std.specs.Char.{digit_value}
@@ -8,6 +8,11 @@ use Rattle.text.specs.Numbers.{decimal_digit_of, hex_digit_of, value_from, numbe
 pub hex_digit_is : (b : ℕ) → hex_digit_of b ≡ min (digit_value b) 16
 unfolding hex_digit_of
 hex_digit_is b = grind (arith, nat_tests)
+
+-- a digit's low four bits are its value, but for a letter's nine
+pub nibble_is : (b : ℕ) → hex_digit_of b < 16 → b % 16 + b / 64 * 9 ≡ hex_digit_of b
+unfolding hex_digit_of
+nibble_is b h = grind (arith, nat_tests)
 
 decimal_digit_is : (b : ℕ) → decimal_digit_of b ≡ min (digit_value b) 10
 unfolding decimal_digit_of

@@ -1,24 +1,14 @@
 -- Pairs of hexadecimal digits: what each byte is, and what is written so far.
-use Rattle.std.proofs.Common.{◌≡◌, ℕ, zero, suc, ◌+◌, ◌/◌, ◌%◌, ◌≤◌, ◌<◌, true, false, Option, Some, None, IsSome, List, [], ◌∷◌, length, get_or, set, ltb, refl, sym, ap, ◌∙◌, arith, zero-add}
+use Rattle.std.proofs.Common.{◌≡◌, ℕ, zero, suc, ◌+◌, ◌/◌, ◌%◌, ◌≤◌, ◌<◌, true, false, Some, None, List, [], ◌∷◌, length, get_or, set, ltb, refl, sym, ap, ◌∙◌, arith, zero-add}
 use borrow.Author.Tests.{ltb-true, le-leb, lt-leb, eq-eqb, ne_eqb}
 use Rattle.std.proofs.Math.Seq.{paste}
 use Rattle.std.proofs.lemmas.List.Edits.{paste_more}
 use Rattle.std.proofs.lemmas.Bool.Decides.{nat_tests}
-use Rattle.std.specs.Option.{SomeIff}
 use Rattle.std.specs.Char.{is_ascii_hexdigit}
 use Rattle.std.specs.List.{list_all}
 use Rattle.std.specs.Simd.{first_chunks}
 use Rattle.laws.specs.Pick.{pick_same, both}
 use Rattle.text.specs.Numbers.{hex_digit_of, BothDigits, byte_of, all_hex, pairs_of, hex_good, hex_bytes_of, hex_bytes_on}
-
--- a value that is there, and which
-pub is_there : (r : Option ℕ) (P : Type 0) (v : ℕ) → SomeIff r P v → P → IsSome r
-is_there None P v f p = absurd (f p)
-is_there (Some x) P v f p = refl
-
-pub is_that : (r : Option ℕ) (P : Type 0) (v : ℕ) {x : ℕ} → SomeIff r P v → r ≡ Some x → x ≡ v
-is_that None P v f e = absurd (let z = e in cc)
-is_that (Some y) P v f e = let z = e in let k = f.1 in cc
 
 -- is each byte a digit?
 pub all_is : (s : List ℕ) → list_all is_ascii_hexdigit s ≡ all_hex s
@@ -104,4 +94,4 @@ module _ (s d : List ℕ) where
     all_written f = rw (t, ← e) f
 
 -- what the goals of `hex_bytes` need
-pub ruleset pair_steps = (is_there, is_that, digits_at, pair_written, odd, no_room, not_all, is_good, no_answer, unwritten, answered, all_written)
+pub ruleset pair_steps = (digits_at, pair_written, odd, no_room, not_all, is_good, no_answer, unwritten, answered, all_written)

@@ -10,6 +10,7 @@ use denote.Param.Members.{Mut}
 use denote.Ref.{Bor}
 use Rattle.laws.specs.First.{first_from}
 use Rattle.std.specs.declared.ops.Range.{Range}
+use Rattle.text.specs.declared.Word.{Word}
 use Rattle.text.specs.Text.{place_or, stop, word_from, word_to, next_word_of}
 
 one_by : (p : ℕ → Bool) (i n end : ℕ) → unwrap_or (find p (range_with_len (suc i) n)) end ≡ place_or end (first_from p (suc i) n) → (t : Bool) → p i ≡ t
@@ -37,6 +38,6 @@ stop_found p i end u f r ran same e =
     e ∙ ap (λ o. unwrap_or o end) (sym (same_option r) ∙ found) ∙ one_each p (end - i) i end
 
 pub next_word_is : (s : List ℕ) (at end : ℕ) {last from to : ℕ} → last ≡ min end (length s) → from ≡ word_from s at last → to ≡ word_to s from last
-    → ◌≡◌ {A = Range ℕ} (record { start = from; end = to }) (next_word_of s at end)
+    → ◌≡◌ {A = Word} (record { from = from; to = to }) (next_word_of s at end)
 unfolding next_word_of
 next_word_is s at end el ef et = rw (et, ef, el)

@@ -2,7 +2,7 @@
 use Rattle.std.specs.Prelude.{ℕ, ◌-◌, ◌≤◌, min, Bool, not, List, eqb, length}
 use Rattle.laws.specs.Parts.{byte_at}
 use Rattle.laws.specs.First.{Place, At, Nowhere, first_from}
-use Rattle.std.specs.declared.ops.Range.{Range}
+use Rattle.text.specs.declared.Word.{Word}
 
 -- a stretch of a slice of n bytes
 pub record Within (from to n : ℕ) : Type 0 where
@@ -37,8 +37,8 @@ unfoldable pub word_to : List ℕ → ℕ → ℕ → ℕ
 word_to s at end = stop (space_at s) at end
 
 -- the next word of the line that ends at `end`, or with the slice; empty at the line's end
-unfoldable pub next_word_of : List ℕ → ℕ → ℕ → Range ℕ
+unfoldable pub next_word_of : List ℕ → ℕ → ℕ → Word
 next_word_of s at end =
     let last = min end (length s) in
     let from = word_from s at last in
-    record { start = from; end = word_to s from last }
+    record { from = from; to = word_to s from last }

@@ -1,5 +1,5 @@
 -- Document 01, "Timestamp (003)", and numbers 9 to 11 of "Numbers the desk will see".
-use Rattle.std.specs.Prelude.{ℕ, ◌+◌, ◌*◌, ◌/◌, ◌%◌, List, length, ltb, eqb, Err, None, Ok, Option, Result, Some}
+use Rattle.std.specs.Prelude.{ℕ, ◌+◌, ◌*◌, ◌/◌, ◌%◌, List, length, ltb, eqb, codes, Err, None, Ok, Option, Result, Some}
 use Rattle.laws.specs.Pick.{pick}
 use Rattle.laws.specs.Words.{word_at}
 use Rattle.timestamp.specs.declared.Framerate.{Framerate}
@@ -13,6 +13,12 @@ abbrev pub number_of : TimestampError → ℕ
 number_of InsufficientData = 9
 number_of InvalidSyncBytes = 10
 number_of InvalidBcdDigit = 11
+
+-- what each of them prints
+abbrev pub text_of : TimestampError → List ℕ
+text_of InsufficientData = codes "too short for a timestamp"
+text_of InvalidSyncBytes = codes "wrong sync bytes"
+text_of InvalidBcdDigit = codes "a digit that is none"
 
 -- the number of an answer, 0 where a timestamp is given
 abbrev pub refusal : Result Timestamp TimestampError → ℕ

@@ -2,8 +2,8 @@
 // printing and its trace lines left out. Any slice is taken: too short is number 9, wrong sync bytes 10, a digit that is none 11.
 #![tactic(auto)]
 
-ghost use Rattle.std.specs.Prelude.{◌≡◌};
-ghost use Rattle.timestamp.specs.Timestamp.{bcd_of, rate_of, rate_code, parse_of, number_of};
+ghost use Rattle.std.specs.Prelude.{◌≡◌, Some};
+ghost use Rattle.timestamp.specs.Timestamp.{bcd_of, rate_of, rate_code, parse_of, number_of, text_of};
 
 use std::error::Error;
 use std::{array, fmt};
@@ -44,11 +44,13 @@ pub enum TimestampError {
 }
 
 impl fmt::Display for TimestampError {
+    ghost output = { λ error. Some (text_of error) };
+
     fn fmt<W: fmt::Write>(&self, f: &mut fmt::Formatter<W>) -> fmt::Result {
-        match self {
-            TimestampError::InsufficientData => write!(f, "too short for a timestamp"),
-            TimestampError::InvalidSyncBytes => write!(f, "wrong sync bytes"),
-            TimestampError::InvalidBcdDigit => write!(f, "a digit that is none"),
+        match *self {
+            TimestampError::InsufficientData => f.write_str("too short for a timestamp"),
+            TimestampError::InvalidSyncBytes => f.write_str("wrong sync bytes"),
+            TimestampError::InvalidBcdDigit => f.write_str("a digit that is none"),
         }
     }
 }

@@ -125,15 +125,20 @@ fn low(n: u64) -> u32
     (n % 0x1_0000_0000) as u32
 }
 
+// The product modulo 2^32.
+fn wrapping_mul_u32(a: u32, b: u32) -> u32
+    ensures { result ≡ (a * b) % 2 ^ 32 }
+{
+    a.wrapping_mul(b)
+}
+
 // Where in time the stream begins, told by its first field.
 #[tactic(auto, using(crate::proofs::Words::start_is))]
 fn stream_start(field: Field, samples: u64) -> u32
     ensures { result ≡ start_of field samples }
 {
-    let here = low(field.timing)
-        .wrapping_mul(65536)
-        .wrapping_add(low(field.output));
-    let since = low(field.unit).wrapping_mul(low(samples));
+    let here = wrapping_mul_u32(low(field.timing), 65536).wrapping_add(low(field.output));
+    let since = wrapping_mul_u32(low(field.unit), low(samples));
     here.wrapping_sub(since)
 }
 
@@ -143,10 +148,8 @@ fn stream_start(field: Field, samples: u64) -> u32
 fn elapsed(unit: u64, previous: Field, samples: u64) -> u32
     ensures { result ≡ elapsed_of unit previous samples }
 {
-    low(unit)
-        .wrapping_sub(low(previous.unit))
-        .wrapping_mul(low(samples))
-        .wrapping_add(low(previous.output))
+    let units = low(unit).wrapping_sub(low(previous.unit));
+    wrapping_mul_u32(units, low(samples)).wrapping_add(low(previous.output))
 }
 
 // Does the field continue the one before it?

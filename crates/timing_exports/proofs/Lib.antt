@@ -1,3 +1,3 @@
 -- What each way out of a call shows, and that each call has one answer.
-mod One
+pub mod One
 pub mod Ways

@@ -15,7 +15,7 @@ use Rattle.window_rules.specs.Levels.{added_levels_of, totals_of, emptied_depths
 use Rattle.window_rules.specs.Rings.{written_of}
 use Rattle.window_rules.specs.Window.{answer_of, drain_of, stepped_of, refused_of, pushed_of}
 use Rattle.window_rules.specs.declared.Drained.{Drained}
-use Rattle.window_rules.specs.declared.Report.{Report}
+use Rattle.window_rules.specs.declared.Pushed.{Pushed}
 use Rattle.window_rules.specs.declared.Rings.{Rings}
 use Rattle.window_rules.specs.declared.Window.{Window}
 use Rattle.window_rules.proofs.KeepLaws.{drain_room, drain_write}
@@ -28,12 +28,13 @@ passed_all true true false e = cc
 passed_all true false z e = cc
 passed_all false y z e = cc
 
-module _ (w : Window) (c : Contribution) {a : Result Unit Refusal} (told : a ≡ answer_of w c) where
-  module _ {done : Unit} (taken : a ≡ Ok done) where
-    holds : (fits_of w.levels ≡ true) × (room_of w.levels c ≡ true)
-    unfolding answer_of
-    holds = passed_all (fits_of w.levels) (small_of c) (room_of w.levels c) (sym told ∙ taken)
+module _ (w : Window) (c : Contribution) where
+  -- what the tests let through fits, and has room
+  pub let_through : {a : Result Unit Refusal} → a ≡ answer_of w c → {done : Unit} → a ≡ Ok done → (fits_of w.levels ≡ true) × (room_of w.levels c ≡ true)
+  unfolding answer_of
+  let_through told taken = passed_all (fits_of w.levels) (small_of c) (room_of w.levels c) (sym told ∙ taken)
 
+  module _ (holds : (fits_of w.levels ≡ true) × (room_of w.levels c ≡ true)) where
     pub reads_a_slot : w.levels.read < 128
     reads_a_slot = read_of_fit w.levels holds.0
 
@@ -46,16 +47,20 @@ module _ (w : Window) (c : Contribution) {a : Result Unit Refusal} (told : a ≡
     drained_has_room rings playhead e = (rw (e, drain_write 128 rings playhead w.levels) writes_a_slot, rw e (drain_room 128 rings playhead w.levels c holds.1))
 
   module _ (playhead removal : SampleTime) where
-    pub step_refused : {refusal : Refusal} → a ≡ Err refusal → {answer : Result Report Refusal} → answer ≡ Err refusal
-        → pushed_of w playhead removal c ≡ record { window = w; answer = answer }
-    unfolding pushed_of refused_of
-    step_refused e f = rw (← told, e, f)
-
-    pub step_taken : {done : Unit} → a ≡ Ok done → {rings : Rings} {d : Drained} {l : Levels} {depths : List ℕ} → rings ≡ written_of w.rings w.levels.write removal c
+    pub step_taken : {rings : Rings} {d : Drained} {l : Levels} {depths : List ℕ} → rings ≡ written_of w.rings w.levels.write removal c
         → d ≡ drain_of 128 rings playhead w.levels → l ≡ added_levels_of d.levels c → depths ≡ totals_of l.depth
-        → pushed_of w playhead removal c ≡ record { window = record { rings = rings; levels = l }; answer = Ok (record { depths = depths; underrun = d.underrun }) }
-    unfolding pushed_of stepped_of
-    step_taken taken p q r s = rw (← told, taken, s, r, q, p)
+        → ◌≡◌ {A = Pushed} (record { window = record { rings = rings; levels = l }; answer = Ok (record { depths = depths; underrun = d.underrun }) }) (stepped_of w playhead removal c)
+    unfolding stepped_of
+    step_taken p q r s = rw (s, r, q, p)
+
+    module _ {a : Result Unit Refusal} (told : a ≡ answer_of w c) where
+      pub push_refused : {refusal : Refusal} → a ≡ Err refusal → ◌≡◌ {A = Pushed} (record { window = w; answer = Err refusal }) (pushed_of w playhead removal c)
+      unfolding pushed_of refused_of
+      push_refused e = rw (← told, e)
+
+      pub push_taken : {done : Unit} → a ≡ Ok done → {p : Pushed} → p ≡ stepped_of w playhead removal c → p ≡ pushed_of w playhead removal c
+      unfolding pushed_of
+      push_taken taken e = rw (← told, taken) e
 
 pub levels_restarted : (l : Levels) {d : List Depth} {s : List SubstreamDepth} → d ≡ emptied_depths_of l.depth → s ≡ emptied_substreams_of l.substream
     → ◌≡◌ {A = Levels} (record { read = 0; write = 0; depth = d; substream = s }) (restarted_levels_of l)

@@ -12,8 +12,9 @@ mod single; // one accumulator, one substream
 mod every; // all of them, and what one slot does to the levels
 mod slots; // the rings and the drain
 
-ghost use Rattle.std.specs.Prelude.{◌≡◌};
-ghost use Rattle.window_rules.specs.Window.{fresh_of, answer_of, pushed_of, restarted_of};
+ghost use Rattle.std.specs.Prelude.{◌≡◌, true};
+ghost use Rattle.levels.specs.Numbers.{fits_of, room_of};
+ghost use Rattle.window_rules.specs.Window.{fresh_of, answer_of, stepped_of, pushed_of, restarted_of};
 
 use every::{add_slot, fresh_levels, restart_levels, totals};
 use kinds::SampleTime;
@@ -39,26 +40,29 @@ fn check(window: &Window, contribution: Contribution) -> Result<(), Refusal>
     Ok(())
 }
 
-// A step in place: write the slot, drain, add. One that is refused changes nothing.
+// A step that is accepted: write the slot, drain, add.
 fn step(
-    window: &mut Window,
+    window: Window,
     playhead: SampleTime,
     removal: SampleTime,
     contribution: Contribution,
-) -> Result<Report, Refusal>
-    ensures { pushed_of window.old playhead removal contribution ≡ record { window = window.new; answer = result } }
+) -> Pushed
+    requires { (fits_of window.levels ≡ true) × (room_of window.levels contribution ≡ true) }
+    ensures { result ≡ stepped_of window playhead removal contribution }
 {
-    check(window, contribution)?;
     let slot = Slot {
         number: window.levels.write,
     };
-    write_slot(&mut window.rings, slot, removal, contribution);
-    let drained = drain(&window.rings, window.levels, playhead);
-    window.levels = add_slot(drained.levels, contribution);
-    Ok(Report {
-        depths: totals(window.levels.depth),
-        underrun: drained.underrun,
-    })
+    let rings = write_slot(window.rings, slot, removal, contribution);
+    let drained = drain(&rings, window.levels, playhead);
+    let levels = add_slot(drained.levels, contribution);
+    Pushed {
+        window: Window { rings, levels },
+        answer: Ok(Report {
+            depths: totals(levels.depth),
+            underrun: drained.underrun,
+        }),
+    }
 }
 
 // A window that never held a unit.
@@ -75,15 +79,20 @@ pub fn fresh() -> Window
 // Admits a unit and drains every slot that playback has strictly passed. Numbers 1, 12 and 13, in this order, hand the window back
 // as it was.
 pub fn push(
-    mut window: Window,
+    window: Window,
     playhead: SampleTime,
     removal: SampleTime,
     contribution: Contribution,
 ) -> Pushed
     ensures { result ≡ pushed_of window playhead removal contribution }
 {
-    let answer = step(&mut window, playhead, removal, contribution);
-    Pushed { window, answer }
+    match check(&window, contribution) {
+        Ok(()) => step(window, playhead, removal, contribution),
+        Err(refusal) => Pushed {
+            window,
+            answer: Err(refusal),
+        },
+    }
 }
 
 // Drops every unit in flight and starts the window again, keeping the peaks.

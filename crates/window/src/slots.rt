@@ -37,20 +37,30 @@ fn write<const N: usize>(rings: &mut [[u32; 128]; N], slot: Slot, bytes: [u32; N
     }
 }
 
-// The arriving unit's slot, written in each ring.
+// The arriving unit's slot, written in each ring. The rings are taken apart, so that each is written where it stands and none is copied as a whole.
 #[tactic(auto, unfolding(window_rules::specs::Rings::written_of))]
 pub(crate) fn write_slot(
-    rings: &mut Rings,
+    rings: Rings,
     slot: Slot,
     removal: SampleTime,
     contribution: Contribution,
-)
-    ensures { rings.new ≡ written_of rings.old slot.number removal contribution }
+) -> Rings
+    ensures { result ≡ written_of rings slot.number removal contribution }
 {
-    rings.removal[slot.number] = removal.0;
-    write(&mut rings.total, slot, contribution.total);
-    write(&mut rings.stream, slot, contribution.stream);
-    write(&mut rings.substream, slot, contribution.substream);
+    let mut times = rings.removal;
+    let mut total = rings.total;
+    let mut stream = rings.stream;
+    let mut substream = rings.substream;
+    times[slot.number] = removal.0;
+    write(&mut total, slot, contribution.total);
+    write(&mut stream, slot, contribution.stream);
+    write(&mut substream, slot, contribution.substream);
+    Rings {
+        removal: times,
+        total,
+        stream,
+        substream,
+    }
 }
 
 // What the unit of a slot added.

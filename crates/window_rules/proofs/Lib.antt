@@ -2,3 +2,4 @@
 pub mod KeepLaws
 pub mod AlwaysLaws
 pub mod StrictLaws
+pub mod Named
