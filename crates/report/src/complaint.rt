@@ -30,7 +30,7 @@ impl From<Failure> for Cut {
     }
 }
 
-// A writer that is handed each part of a text, also behind a part that it didn't take: where standard error takes no words there is nobody to tell.
+// Hands a writer each part of a text, also behind one that it didn't take: where standard error takes no words there is nobody to tell.
 #[derive(Drop)]
 struct Tried<'a, W> {
     to: &'a mut W,

@@ -9,6 +9,8 @@ use standard_output::Output;
 use std::array;
 use std::fmt::{Display, Write};
 
+const STDOUT: i32 = 1;
+
 // Says a line. Where standard output takes none there is nobody to tell.
 fn say<L: Display + Drop>(line: L) {
     let _ = writeln!(Output, "{line}");
@@ -22,7 +24,7 @@ fn report<H: Display + Drop>(heading: H, bytes: &[u8], size: usize) {
     let Ok(reader) = Extractor::open(&buf, Algorithm::major_sync_info()) else {
         return say("the reader refused its buffer");
     };
-    let reported = reporting::report_bytes(reader, &mut buf, bytes, size, &mut out, &mut Output);
+    let reported = reporting::report_bytes_to_file(reader, &mut buf, bytes, size, &mut out, STDOUT);
     if let Err(Failure::Refused(refusal)) = reported {
         say(format_args!("refused by number {}", u8::from(refusal)));
     }

@@ -45,8 +45,8 @@ impl fmt::Display for Failure {
 
 impl Error for Failure {}
 
-// Gathers and writes until the reader is dry. Nothing here says that it ever is, so the turns are counted down from a number that no run
-// uses up.
+// Gathers and writes until the reader is dry. Nothing here says that it ever is, so the turns are counted, up to a number that no run
+// reaches.
 #[tactic(auto, using(crate::proofs::Ways::wrote_spent, crate::proofs::Ways::wrote_dry, crate::proofs::Ways::wrote_refused, crate::proofs::Ways::wrote_on))]
 fn write_lines<W: Write>(
     reader: Extractor,
