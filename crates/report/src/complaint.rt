@@ -59,57 +59,61 @@ pub(crate) enum Complaint<'a> {
 }
 
 impl Complaint<'_> {
-    // Says what went wrong, and what to do.
+    // Says what went wrong, and what to do, in the parts in which it was always written: one that takes some parts alone keeps the same ones.
     // Stays: no `Display`, which takes text alone: a name or a word is said byte for byte as it was given, and these words may not change.
-    pub(crate) fn tell<W: Write>(self, to: &mut W) -> io::Result<()> {
-        let to = &mut Tried { to };
+    pub(crate) fn tell(self, rt: &HostRuntime) -> io::Result<()> {
+        let mut stderr = rt.stderr();
+        let to = &mut Tried { to: &mut stderr };
         match self {
             Complaint::TooManyWords => {
-                writeln!(to, "report: too many words: report [FILE [PIECE]]")
+                to.write_all(b"report: too many words: report [FILE [PIECE]]\n")
             }
-            Complaint::LongName => writeln!(
-                to,
-                "report: the file's name; give a shorter one: File name too long"
+            Complaint::LongName => to.write_all(
+                b"report: the file's name; give a shorter one: File name too long\n",
             ),
             Complaint::NoPiece(word) => {
                 to.write_all(b"report: '")?;
                 to.write_all(word)?;
-                writeln!(to, "' is no PIECE: give a number from 1 to 1040000")
+                to.write_all(b"' is no PIECE: give a number from 1 to 1040000\n")
             }
             Complaint::NoText(name) => {
                 to.write_all(b"report: cannot open '")?;
                 to.write_all(name)?;
-                writeln!(
-                    to,
-                    "'; name a file that can be read: the name is no UTF-8 text"
-                )
+                to.write_all(b"'; name a file that can be read: the name is no UTF-8 text\n")
             }
-            Complaint::Unopened { name, error } => writeln!(
-                to,
-                "report: cannot open '{name}'; name a file that can be read: {error}"
-            ),
-            Complaint::Ended { name, cut } => tell_cut(name, cut, to),
+            Complaint::Unopened { name, error } => {
+                write!(
+                    to,
+                    "report: cannot {} '{name}{}: ",
+                    "open", "'; name a file that can be read"
+                )?;
+                rt.eprintln(error)
+            }
+            Complaint::Ended { name, cut } => tell_cut(rt, name, cut, to),
         }
     }
 }
 
-fn tell_cut<W: Write>(name: &str, cut: Cut, to: &mut W) -> io::Result<()> {
+fn tell_cut<W: Write>(rt: &HostRuntime, name: &str, cut: Cut, to: &mut W) -> io::Result<()> {
     match cut {
-        Cut::Unopened(_) => writeln!(to, "report: the reader refused its buffer"),
-        Cut::Unread(error) => writeln!(
-            to,
-            "report: cannot read '{name}'; name a file or a pipe that can be read: {error}"
-        ),
+        Cut::Unopened(_) => to.write_all(b"report: the reader refused its buffer\n"),
+        Cut::Unread(error) => {
+            write!(
+                to,
+                "report: cannot {} '{name}{}: ",
+                "read", "'; name a file or a pipe that can be read"
+            )?;
+            rt.eprintln(error)
+        }
         Cut::Unreported(Failure::Refused(refusal)) => {
             let number = u8::from(refusal);
-            writeln!(
+            write!(
                 to,
-                "report: '{name}': the reader refused a piece by number {number}; cut the stream below 2^48 bytes"
+                "report: '{name}': the reader refused a piece by number {number}; cut the stream below 2^48 bytes\n"
             )
         }
-        Cut::Unreported(Failure::Unwritten) => writeln!(
-            to,
-            "report: cannot write to standard output; give it a place with room"
+        Cut::Unreported(Failure::Unwritten) => to.write_all(
+            b"report: cannot write to standard output; give it a place with room\n",
         ),
     }
 }

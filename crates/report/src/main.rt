@@ -126,6 +126,6 @@ fn main(rt: HostRuntime) {
     let mut word = zeros::<4096>();
     if let Err(complaint) = run(&rt, &mut name, &mut word) {
         // Where standard error takes no words there is nobody to tell.
-        let _ = complaint.tell(&mut rt.stderr());
+        let _ = complaint.tell(&rt);
     }
 }

@@ -1,5 +1,5 @@
 // Running a script: a record with the next unit, moved on bit by bit. A script is made of 0 and 1, with blanks between them.
-use crate::show::Shown;
+use crate::show::{Aligned, Bit, Shown};
 use std::fmt::{self, Write};
 use timing::{HiresOutputTimingState, TimingContext, Updated};
 
@@ -55,9 +55,9 @@ impl Desk {
         let (desk, updated) = self.step(bit);
         writeln!(
             out,
-            "  unit {:>5}  bit {}  {}",
-            self.about.unit,
-            u8::from(bit),
+            "  unit {}{}{}",
+            Aligned(self.about.unit, 5),
+            Bit(bit),
             Shown(updated)
         )?;
         Ok(desk)

@@ -1,37 +1,38 @@
 // The caps: FBA by accumulator, FBB by accumulator and low nibble, and that no high nibble changes one.
+use crate::text::Column;
 use byte_caps::{Cap, fba_cap, fbb_cap};
 use std::fmt::Write;
 use std::{array, fmt};
 
-// A cap in a column of eleven.
+// A cap in a column of eleven. A word carries its blanks, to be one fragment with them (text.rt).
 #[derive(Clone, Copy)]
-struct Column(Cap);
+struct Shown(Cap);
 
-impl fmt::Display for Column {
+impl fmt::Display for Shown {
     fn fmt<W: fmt::Write>(&self, f: &mut fmt::Formatter<W>) -> fmt::Result {
         match self.0 {
-            Cap::Bytes(bytes) => write!(f, "{bytes:>11}"),
-            Cap::Unchecked => write!(f, "{:>11}", "none"),
-            Cap::NoSuchAccumulator => write!(f, "{:>11}", "no such"),
+            Cap::Bytes(bytes) => write!(f, "{}", Column(bytes)),
+            Cap::Unchecked => f.write_str("       none"),
+            Cap::NoSuchAccumulator => f.write_str("    no such"),
         }
     }
 }
 
 fn row(out: &mut impl Write, caps: [Cap; 6]) -> fmt::Result {
     for cap in caps {
-        write!(out, "{}", Column(cap))?;
+        write!(out, "{}", Shown(cap))?;
     }
     writeln!(out)
 }
 
 fn fba(out: &mut impl Write) -> fmt::Result {
-    write!(out, "FBA caps, accumulators 0 to 5\n              ")?;
+    out.write_str("FBA caps, accumulators 0 to 5\n              ")?;
     row(out, array::from_fn(|k| fba_cap(k)))?;
     writeln!(out)
 }
 
 fn fbb(out: &mut impl Write, info: u8) -> fmt::Result {
-    write!(out, "  info {info:>11}")?;
+    write!(out, "  info {}", Column(u64::from(info)))?;
     row(out, array::from_fn(|k| fbb_cap(k, info)))
 }
 
@@ -46,7 +47,7 @@ fn agreeing() -> usize {
 
 pub(crate) fn print(out: &mut impl Write) -> fmt::Result {
     fba(out)?;
-    writeln!(out, "FBB caps by low nibble, accumulators 0 to 5")?;
+    out.write_str("FBB caps by low nibble, accumulators 0 to 5\n")?;
     for nibble in 0..16 {
         fbb(out, nibble)?;
     }

@@ -10,7 +10,7 @@ use levels::{Contribution, Depth, Levels, Peak, SubstreamDepth};
 use standard_output::Output;
 use std::fmt;
 use std::fmt::Write;
-use text::{Named, Row, answer};
+use text::{Column, Named, Row, answer};
 use window_rules::{Report, Window};
 
 // One unit, and when it is pushed.
@@ -38,6 +38,16 @@ fn even(total: u32, stream: u32, substream: u32) -> Contribution {
     }
 }
 
+// How many units a window holds.
+#[derive(Clone, Copy)]
+struct Held(Levels);
+
+impl fmt::Display for Held {
+    fn fmt<W: Write>(&self, f: &mut fmt::Formatter<W>) -> fmt::Result {
+        write!(f, " held {}", self.0.buffered().unwrap_or(0))
+    }
+}
+
 // One step and its report, on a line.
 fn push(out: &mut impl Write, window: Window, arrival: Arrival) -> Result<Window, fmt::Error> {
     let pushed = window::push(
@@ -52,19 +62,15 @@ fn push(out: &mut impl Write, window: Window, arrival: Arrival) -> Result<Window
     });
     writeln!(
         out,
-        "  step playhead {:>11} removal {:>11} number {:>2} underrun {} depths{} held {}",
-        arrival.playhead,
-        arrival.removal,
+        "  step playhead {} removal {}{} underrun {} depths{}{}",
+        Column(arrival.playhead),
+        Column(arrival.removal),
         answer(pushed.answer),
         Named(report.underrun),
         Row(&report.depths),
-        held(pushed.window)
+        Held(pushed.window.levels)
     )?;
     Ok(pushed.window)
-}
-
-fn held(window: Window) -> usize {
-    window.levels.buffered().unwrap_or(0)
 }
 
 fn steps(
@@ -80,7 +86,7 @@ fn steps(
 
 // Steps from a window on, and everything that the window then holds.
 fn script(out: &mut impl Write, title: &str, window: Window, arrivals: &[Arrival]) -> fmt::Result {
-    writeln!(out, "{title}")?;
+    out.write_str(title)?;
     let last = steps(out, window, arrivals)?;
     show(out, last.levels)
 }
@@ -89,12 +95,13 @@ fn depths(out: &mut impl Write, levels: Levels) -> fmt::Result {
     for (k, depth) in levels.depth.iter().enumerate() {
         writeln!(
             out,
-            "  accumulator {k} holds {:>11} stream {:>11}",
-            depth.total, depth.stream
+            "  accumulator {k} holds {} stream {}",
+            Column(depth.total),
+            Column(depth.stream)
         )?;
     }
     for (i, depth) in levels.substream.iter().enumerate() {
-        writeln!(out, "  substream   {i} holds {:>11}", depth.bytes)?;
+        writeln!(out, "  substream   {i} holds {}", Column(depth.bytes))?;
     }
     Ok(())
 }
@@ -111,8 +118,10 @@ fn peaks(out: &mut impl Write, levels: Levels) -> fmt::Result {
     for (k, peak) in records.iter().enumerate() {
         writeln!(
             out,
-            "  peak        {k} total {:>11} stream {:>11} overhead {:>11}",
-            peak.total, peak.stream, peak.overhead
+            "  peak        {k} total {} stream {} overhead {}",
+            Column(peak.total),
+            Column(peak.stream),
+            Column(peak.overhead)
         )?;
     }
     let substreams = levels.substream_peaks().unwrap_or([0; 4]);
@@ -129,7 +138,7 @@ fn show(out: &mut impl Write, levels: Levels) -> fmt::Result {
 fn equal_playhead(out: &mut impl Write) -> fmt::Result {
     script(
         out,
-        "P9: a playhead equal to the removal time drains nothing; one past it drains",
+        "P9: a playhead equal to the removal time drains nothing; one past it drains\n",
         window::fresh(),
         &[
             step(0, 5, even(10, 8, 2)),
@@ -142,7 +151,7 @@ fn equal_playhead(out: &mut impl Write) -> fmt::Result {
 fn kept_slots(out: &mut impl Write) -> fmt::Result {
     script(
         out,
-        "drained slots keep their numbers: the third step meets the first unit again",
+        "drained slots keep their numbers: the third step meets the first unit again\n",
         window::fresh(),
         &[
             step(0, 5, even(10, 8, 2)),
@@ -155,7 +164,7 @@ fn kept_slots(out: &mut impl Write) -> fmt::Result {
 fn full_ring(out: &mut impl Write) -> fmt::Result {
     script(
         out,
-        "a fresh window, one step: 128 slots are drained, and no more",
+        "a fresh window, one step: 128 slots are drained, and no more\n",
         window::fresh(),
         &[step(1, 0, even(0, 0, 0))],
     )
@@ -169,7 +178,7 @@ fn highest(out: &mut impl Write) -> fmt::Result {
     };
     script(
         out,
-        "two accumulators are short: the higher is named, the unit is drained whole, and the drain stops",
+        "two accumulators are short: the higher is named, the unit is drained whole, and the drain stops\n",
         window::fresh(),
         &[
             step(0, 5, two),
@@ -182,7 +191,7 @@ fn highest(out: &mut impl Write) -> fmt::Result {
 fn overhead(out: &mut impl Write) -> fmt::Result {
     script(
         out,
-        "a stream part above the total: the overhead of the peak is 0",
+        "a stream part above the total: the overhead of the peak is 0\n",
         window::fresh(),
         &[step(0, 5, even(3, 8, 2))],
     )
@@ -191,7 +200,7 @@ fn overhead(out: &mut impl Write) -> fmt::Result {
 fn floors(out: &mut impl Write) -> fmt::Result {
     script(
         out,
-        "stream and substream parts stop at 0: the third step drains the first unit a second time",
+        "stream and substream parts stop at 0: the third step drains the first unit a second time\n",
         window::fresh(),
         &[
             step(0, 5, even(0, 8, 2)),
@@ -211,12 +220,9 @@ fn filled(n: u64) -> Window {
 }
 
 fn overwritten(out: &mut impl Write) -> fmt::Result {
-    writeln!(
-        out,
-        "127 units are held; the 129th overwrites the first and counts as one held"
-    )?;
+    out.write_str("127 units are held; the 129th overwrites the first and counts as one held\n")?;
     let many = filled(127);
-    writeln!(out, "  held {}", held(many))?;
+    writeln!(out, " {}", Held(many.levels))?;
     let last = steps(
         out,
         many,
@@ -233,7 +239,7 @@ fn overwritten(out: &mut impl Write) -> fmt::Result {
 fn contributions(out: &mut impl Write) -> fmt::Result {
     script(
         out,
-        "a contribution of 16,384 is taken; one of 16,385, of any kind, is number 12",
+        "a contribution of 16,384 is taken; one of 16,385, of any kind, is number 12\n",
         window::fresh(),
         &[
             step(0, 5, even(16384, 16384, 16384)),
@@ -270,7 +276,7 @@ fn deep(total: u64, stream: u64, bytes: u64) -> Window {
 fn deepest(out: &mut impl Write) -> fmt::Result {
     script(
         out,
-        "a depth at 4,294,967,295: 0 bytes more are taken, 1 more is number 13, stream and substream depths too",
+        "a depth at 4,294,967,295: 0 bytes more are taken, 1 more is number 13, stream and substream depths too\n",
         deep(4294967295, 4294967295, 4294967295),
         &[
             step(0, 5, even(0, 0, 0)),
@@ -284,7 +290,7 @@ fn deepest(out: &mut impl Write) -> fmt::Result {
 fn before_the_drain(out: &mut impl Write) -> fmt::Result {
     script(
         out,
-        "number 13 compares the depths before the drain, which would have made room",
+        "number 13 compares the depths before the drain, which would have made room\n",
         deep(4294967200, 0, 0),
         &[
             step(0, 5, even(95, 0, 0)),
@@ -320,42 +326,43 @@ fn every_call(out: &mut impl Write, title: &str, window: Window) -> fmt::Result 
         answer(levels.peak_records()),
         answer(levels.substream_peaks()),
     ];
-    write!(out, "  {title}")?;
+    out.write_str(title)?;
     for number in numbers {
-        write!(out, " number {number:>2}")?;
+        write!(out, "{number}")?;
     }
+    let after = pushed.window.levels;
     writeln!(
         out,
-        " slots {:>11}{:>11}",
-        pushed.window.levels.read, pushed.window.levels.write
+        " slots {}{}",
+        Column(after.read as u64),
+        Column(after.write as u64)
     )
 }
 
 fn misfits(out: &mut impl Write) -> fmt::Result {
-    writeln!(
-        out,
-        "records that don't fit: push, restart, buffered, peaks, peak_records and substream_peaks answer number 1 first"
+    out.write_str(
+        "records that don't fit: push, restart, buffered, peaks, peak_records and substream_peaks answer number 1 first\n",
     )?;
-    every_call(out, "read 127, write 127 ", at_slots(127, 127))?;
-    every_call(out, "read 128            ", at_slots(128, 0))?;
-    every_call(out, "write 128           ", at_slots(0, 128))?;
+    every_call(out, "  read 127, write 127 ", at_slots(127, 127))?;
+    every_call(out, "  read 128            ", at_slots(128, 0))?;
+    every_call(out, "  write 128           ", at_slots(0, 128))?;
     misfit_depths(out)
 }
 
 fn misfit_depths(out: &mut impl Write) -> fmt::Result {
     every_call(
         out,
-        "depths 4,294,967,295",
+        "  depths 4,294,967,295",
         deep(4294967295, 4294967295, 4294967295),
     )?;
-    every_call(out, "total  4,294,967,296", deep(4294967296, 0, 0))?;
-    every_call(out, "stream 4,294,967,296", deep(0, 4294967296, 0))?;
-    every_call(out, "substr 4,294,967,296", deep(0, 0, 4294967296))?;
+    every_call(out, "  total  4,294,967,296", deep(4294967296, 0, 0))?;
+    every_call(out, "  stream 4,294,967,296", deep(0, 4294967296, 0))?;
+    every_call(out, "  substr 4,294,967,296", deep(0, 0, 4294967296))?;
     writeln!(out)
 }
 
 fn order(out: &mut impl Write) -> fmt::Result {
-    writeln!(out, "the numbers in their order: 1, 12, 13")?;
+    out.write_str("the numbers in their order: 1, 12, 13\n")?;
     push(out, at_slots(128, 0), step(0, 5, even(16385, 0, 0)))?;
     steps(
         out,
@@ -366,9 +373,8 @@ fn order(out: &mut impl Write) -> fmt::Result {
 }
 
 fn restarted(out: &mut impl Write) -> fmt::Result {
-    writeln!(
-        out,
-        "restart makes the window new, peaks excepted: no old record is left for the last step to meet"
+    out.write_str(
+        "restart makes the window new, peaks excepted: no old record is left for the last step to meet\n",
     )?;
     let single = Contribution {
         total: [1, 0, 0, 0, 0],
@@ -380,7 +386,7 @@ fn restarted(out: &mut impl Write) -> fmt::Result {
         &[step(0, 0, even(0, 0, 0)), step(0, 0, single)],
     )?;
     let restarted = window::restart(before);
-    writeln!(out, "  restart number {:>2}", answer(restarted.answer))?;
+    writeln!(out, "  restart{}", answer(restarted.answer))?;
     let last = push(out, restarted.window, step(1, 0, even(0, 0, 0)))?;
     show(out, last.levels)
 }
